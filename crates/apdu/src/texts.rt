@@ -1,0 +1,83 @@
+// Lists of bytes, and text, as contracts see them: a list of bytes.
+ghost use Rattle.std.specs.Prelude.{◌≡◌, IfOk, IsUtf8, string_bytes};
+
+use crate::Memory;
+use std::alloc::Global;
+use std::marker::Model;
+
+/// Bytes of any number.
+#[derive(Drop)]
+pub struct Bytes {
+    items: Vec<u8>,
+}
+
+impl Model for Bytes {
+    ghost use Rattle.std.specs.Prelude.{List, ℕ};
+
+    ghost Value = { List ℕ };
+
+    ghost view = { λ b. b.items.items };
+}
+
+impl Bytes {
+    /// A copy of the bytes.
+    pub fn from_slice(alloc: Global, bytes: &[u8]) -> Result<Bytes, Memory>
+        ensures { IfOk result (λ b. b ≡ bytes.now) }
+    {
+        Ok(Bytes {
+            items: bytes.to_vec(alloc)?,
+        })
+    }
+
+    /// The bytes themselves, which takes no memory.
+    pub fn from_vec(items: Vec<u8>) -> Bytes
+        ensures { result ≡ items.items }
+    {
+        Bytes { items }
+    }
+
+    pub fn as_slice(&self) -> &[u8]
+        ensures { result.now ≡ self.now }
+    {
+        self.items.as_slice()
+    }
+}
+
+/// Text, which is always UTF-8. Contracts see its bytes.
+#[derive(Drop)]
+pub struct Text {
+    inner: String,
+}
+
+impl Model for Text {
+    ghost use Rattle.std.specs.Prelude.{List, ℕ, string_bytes};
+
+    ghost Value = { List ℕ };
+
+    ghost view = { λ t. string_bytes t.inner };
+}
+
+impl Text {
+    /// A copy of the text.
+    pub fn from_str(alloc: Global, text: &str) -> Result<Text, Memory>
+        ensures { IfOk result (λ t. t ≡ text.now) }
+    {
+        Ok(Text {
+            inner: String::from_str(alloc, text)?,
+        })
+    }
+
+    /// The text itself, which takes no memory.
+    pub fn from_string(inner: String) -> Text
+        ensures { result ≡ string_bytes inner }
+    {
+        Text { inner }
+    }
+
+    pub fn as_str(&self) -> &str
+        ensures text { result.now ≡ self.now }
+        ensures utf8 { IsUtf8 self.now }
+    {
+        self.inner.as_str()
+    }
+}
