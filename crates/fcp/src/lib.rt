@@ -1,0 +1,10 @@
+//! File control parameters (ETSI TS 102 221 clause 11.1.1.3), access rules (clause 9.2), and the contents of files.
+#![tactic(auto)]
+
+mod control;
+mod rows;
+mod rule;
+
+pub use control::{ArrRef, Fcp, FcpError};
+pub use rows::{FileKind, FileView, Rows};
+pub use rule::{Need, Rule};

@@ -1,0 +1,94 @@
+-- Proactive commands, ETSI TS 102 223 clauses 6.6.13 (REFRESH), 8.6 (command details), 8.7 (device identities), 8.18 (file list) and 6.8 (terminal response).
+use Rattle.std.specs.Prelude.{ℕ, ◌==◌, ◌&&◌, Bool, nat_le, if◌then◌else◌, List, [], ◌∷◌, ◌++◌, length, flat_map, Option, Some, None, option_map, Result, Ok, Err}
+use Rattle.std.specs.List.{list_all}
+use Rattle.apdu.specs.Words.{pair_value, two_bytes, is_between, is_empty}
+use Rattle.tlv.specs.Objects.{Part, Parts, ber_parts, simple_parts, value_of_tag, part_bytes}
+use Rattle.refresh_cmd.specs.declared.proactive.Proactive.{Proactive}
+use Rattle.refresh_cmd.specs.declared.proactive.ProactiveError.{ProactiveError}
+use Rattle.refresh_cmd.specs.declared.proactive.ProactiveError.TheVariants.{NotProactive, Tlv, Missing, BadList}
+
+abbrev pub master_file : ℕ
+master_file = 0x3F00
+
+-- the type of REFRESH
+abbrev pub refresh_type : ℕ
+refresh_type = 0x01
+
+-- ---- writing
+
+-- full paths, each of which begins with the MF
+abbrev pub path_bytes : List ℕ → List ℕ
+path_bytes path = flat_map two_bytes (master_file ∷ path)
+
+abbrev pub list_part : List (List ℕ) → List ℕ
+list_part [] = []
+list_part (path ∷ paths) = part_bytes 0x92 (length (path ∷ paths) ∷ flat_map path_bytes (path ∷ paths))
+
+-- command details, device identities UICC to terminal, and the file list where it is not empty
+abbrev pub proactive_bytes : ℕ → ℕ → ℕ → List (List ℕ) → List ℕ
+proactive_bytes number kind qualifier paths =
+    part_bytes 0xD0 (part_bytes 0x81 (number ∷ kind ∷ qualifier ∷ []) ++ part_bytes 0x82 (0x81 ∷ 0x82 ∷ []) ++ list_part paths)
+
+abbrev pub write_refresh : Proactive → List ℕ
+write_refresh p = proactive_bytes p.number p.kind p.qualifier p.list.items
+
+-- command details, device identities terminal to UICC, and the result
+abbrev pub write_terminal_response : ℕ → ℕ → ℕ → ℕ → List ℕ
+write_terminal_response number kind qualifier result =
+    0x81 ∷ 0x03 ∷ number ∷ kind ∷ qualifier ∷ 0x82 ∷ 0x02 ∷ 0x82 ∷ 0x81 ∷ 0x83 ∷ 0x01 ∷ result ∷ []
+
+-- ---- reading
+
+-- the bytes as ids of two bytes, where no byte is left over
+abbrev pub ids_of : List ℕ → Option (List ℕ)
+ids_of [] = Some []
+ids_of (b ∷ []) = None
+ids_of (high ∷ low ∷ rest) = option_map (λ ids. pair_value high low ∷ ids) (ids_of rest)
+
+-- the ids cut before each MF: what stands before the first, and then one path for each
+abbrev pub split_paths : List ℕ → List ℕ × List (List ℕ)
+split_paths [] = ([], [])
+split_paths (id ∷ ids) = joined (split_paths ids)
+  where
+    joined : List ℕ × List (List ℕ) → List ℕ × List (List ℕ)
+    joined (before, paths) = if id == master_file then ([], before ∷ paths) else (id ∷ before, paths)
+
+-- one to three ids behind the MF
+abbrev pub is_good_path : List ℕ → Bool
+is_good_path path = is_between 1 3 (length path)
+
+abbrev pub paths_counted : ℕ → List ℕ × List (List ℕ) → Option (List (List ℕ))
+paths_counted count (before, paths) =
+    if is_empty before && list_all is_good_path paths && (length paths == count) && nat_le count 64 then Some paths else None
+
+-- a count and as many full paths
+abbrev pub paths_of : List ℕ → Option (List (List ℕ))
+paths_of [] = None
+paths_of (count ∷ bytes) = elim (ids_of bytes) [ None ↦ None | Some ids ↦ paths_counted count (split_paths ids) ]
+
+-- without a file list there are no paths
+abbrev pub listed_paths : Option (List ℕ) → Option (List (List ℕ))
+listed_paths None = Some []
+listed_paths (Some bytes) = paths_of bytes
+
+-- the details and the list, where the identities have two bytes
+abbrev pub proactive_from : Option (List ℕ) → Option (List ℕ) → Option (List (List ℕ)) → Result Proactive ProactiveError
+proactive_from (Some (number ∷ kind ∷ qualifier ∷ [])) (Some (source ∷ target ∷ [])) (Some paths) = Ok (record { number = number; kind = kind; qualifier = qualifier; list = record { items = paths } })
+proactive_from (Some (number ∷ kind ∷ qualifier ∷ [])) (Some (source ∷ target ∷ [])) None = Err BadList
+proactive_from (Some (number ∷ kind ∷ qualifier ∷ [])) _ paths = Err (Missing 0x02)
+proactive_from _ identities paths = Err (Missing 0x01)
+
+abbrev pub proactive_parts : Parts → Result Proactive ProactiveError
+proactive_parts read = elim read.damage [
+  | Some damage ↦ Err (Tlv damage)
+  | None ↦ proactive_from (value_of_tag 0x01 read.parts) (value_of_tag 0x02 read.parts) (listed_paths (value_of_tag 0x12 read.parts))
+]
+
+-- the first object, whose tag is D0
+abbrev pub proactive_object : Parts → List Part → Result Proactive ProactiveError
+proactive_object read [] = elim read.damage [ Some damage ↦ Err (Tlv damage) | None ↦ Err (Missing 0x01) ]
+proactive_object read (p ∷ rest) = proactive_parts (simple_parts p.value)
+
+abbrev pub read_proactive : List ℕ → Result Proactive ProactiveError
+read_proactive [] = Err (NotProactive 0)
+read_proactive (b ∷ bytes) = if b == 0xD0 then proactive_object (ber_parts (b ∷ bytes)) (ber_parts (b ∷ bytes)).parts else Err (NotProactive b)
