@@ -1,5 +1,6 @@
 -- File control parameters, ETSI TS 102 221 clause 11.1.1.3, and access rules in expanded form, clause 9.2.
 use Rattle.std.specs.Prelude.{◌≡◌, ◌≤◌, ℕ, ◌+◌, ◌*◌, ◌%◌, ◌==◌, ◌&&◌, not, Bool, true, false, nat_le, if◌then◌else◌, List, [], ◌∷◌, ◌++◌, length, Option, Some, None, is_none, IsSome, slice_index, ◌^◌, Result, Ok, Err}
+use Rattle.std.specs.Borrow.{Bor}
 use Rattle.apdu.specs.Words.{pair_value, two_bytes, is_bit, is_one_of, is_between, same_bytes}
 use Rattle.tlv.specs.declared.error.TlvError.{TlvError}
 use Rattle.tlv.specs.Objects.{Part, Parts, ber_parts, value_of_tag, part_bytes}
@@ -213,3 +214,8 @@ need_for bit _ = Never
 -- bit 1 of the access mode is reading, bit 2 updating
 abbrev pub read_rule : List ℕ → Rule
 read_rule bytes = record { read = need_for 1 (ber_parts bytes).parts; update = need_for 2 (ber_parts bytes).parts }
+
+-- two parts were taken from the front, or there were not two
+abbrev pub GivesPair : List Part → List Part → Option ((ℕ × Bor (List ℕ)) × (ℕ × Bor (List ℕ))) → Type 0
+GivesPair old new None = length old ≤ 1
+GivesPair old new (Some pair) = old ≡ (record { tag = pair.0.0; value = pair.0.1.now }) ∷ (record { tag = pair.1.0; value = pair.1.1.now }) ∷ new
