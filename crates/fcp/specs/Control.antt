@@ -14,6 +14,7 @@ use Rattle.fcp.specs.declared.rule.Rule.{Rule}
 use Rattle.fcp.specs.declared.control.FcpError.{FcpError}
 use Rattle.fcp.specs.declared.control.FcpError.TheVariants.{Tlv, Missing, Bad}
 use Rattle.fcp.specs.Content.{is_linear, is_transparent, is_directory}
+use Rattle.fcp.specs.Objects.{Objects, objects_read}
 
 -- ---- writing
 
@@ -57,23 +58,6 @@ Describes Linear f = IsSome f.file_id × (1 ≤ f.width) × (f.width ≤ 255)
 Describes Directory f = (f.size ≡ 0) × (f.width ≡ 0) × (f.count ≡ 0)
 
 -- ---- reading
-
--- the values of the objects of a template that are read, each of the first object of its tag
-pub record Objects : Type 0 where
-  pub descriptor : Option (List ℕ)
-  pub file_id : Option (List ℕ)
-  pub life_cycle : Option (List ℕ)
-  pub reference : Option (List ℕ)
-  pub size : Option (List ℕ)
-
-abbrev pub objects_of : List Part → Objects
-objects_of parts = record {
-  descriptor = value_of_tag 0x82 parts;
-  file_id = value_of_tag 0x83 parts;
-  life_cycle = value_of_tag 0x8A parts;
-  reference = value_of_tag 0x8B parts;
-  size = value_of_tag 0x80 parts;
-}
 
 -- the kind by the first byte of the descriptor, its two high bits left aside
 abbrev pub kind_of_byte : ℕ → Option FileKind
@@ -169,12 +153,14 @@ abbrev pub fcp_of_objects : Option (List ℕ) → Objects → Result Fcp FcpErro
 fcp_of_objects None o = Err (Missing 0x82)
 fcp_of_objects (Some descriptor) o = fcp_of_kind (kind_of descriptor) descriptor o
 
--- a template is read to its end
+abbrev pub tlv_error : {A : Type 0} → Result A TlvError → Result A FcpError
+tlv_error (Ok x) = Ok x
+tlv_error (Err error) = Err (Tlv error)
+
 abbrev pub template_of : Parts → Result Fcp FcpError
-template_of read = elim read.damage [
-  | Some damage ↦ Err (Tlv damage)
-  | None ↦ fcp_of_objects (objects_of read.parts).descriptor (objects_of read.parts)
-]
+template_of read = do
+  o ← tlv_error (objects_read read)
+  fcp_of_objects o.descriptor o
 
 -- the first object is the template; what follows it is not read
 abbrev pub fcp_of_parts : List Part → Option TlvError → Result Fcp FcpError
