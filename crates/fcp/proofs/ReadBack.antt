@@ -85,7 +85,7 @@ template-whole Linear size (Some id) width count active arr aid fits h = linear-
 template-whole Directory size id width count active arr aid fits h = rw (h.0, h.1, h.2) (directory-whole id active arr aid)
 
 pub read_fcp-write_fcp : (f : Fcp) (aid : List ℕ) → f.size ≤ 65535 → Describes f.kind f → read_fcp (write_fcp f aid) ≡ Ok f
-unfolding read_fcp
+unfolding read_fcp write_fcp
 read_fcp-write_fcp f aid fits describes =
     let outer : ber_parts (write_fcp f aid) ≡ with_part 0x62 (template_bytes f aid) (stopped None) =
     ap ber_parts (sym (append-nil (part_bytes 0x62 (template_bytes f aid)))) ∙ parts_at-written ber_tag 0x62 0x62 0 (template_bytes f aid) [] refl in

@@ -2,7 +2,7 @@
 ghost use Rattle.std.specs.Prelude.{◌≡◌};
 ghost use Rattle.std.specs.Option.{option_copied};
 ghost use Rattle.tlv.specs.Objects.{ber_parts};
-ghost use Rattle.fcp.specs.Control.{read_fcp, template_of, fields_of, kind_of, shape_of, rows_shape, id_of, active_of, number_of, size_of, reference_of, missing_of, or_bad};
+ghost use Rattle.fcp.specs.Control.{read_fcp, template_of, fcp_of_objects, fields_of, kind_of, shape_of, rows_shape, id_of, active_of, number_of, size_of, reference_of, missing_of};
 
 use crate::objects::FoundObjects;
 use crate::{ArrRef, Fcp, FcpError, FileKind};
@@ -23,20 +23,19 @@ pub fn read_fcp(bytes: &[u8]) -> Result<Fcp, FcpError>
 fn read_template(template: &[u8]) -> Result<Fcp, FcpError>
     ensures { result ≡ template_of (ber_parts template.now) }
 {
-    let objects = match FoundObjects::of(template) {
-        Ok(objects) => objects,
-        Err(error) => return Err(FcpError::Tlv(error)),
-    };
-    let Some(descriptor) = objects.descriptor else {
-        return Err(FcpError::Missing(0x82));
-    };
-    let Some(kind) = kind_of(descriptor) else {
-        return Err(FcpError::Bad { tag: 0x82 });
-    };
-    if let Some(tag) = missing_of(kind, &objects) {
+    let objects = FoundObjects::of(template).map_err(FcpError::Tlv)?;
+    fcp_of_objects(&objects)
+}
+
+fn fcp_of_objects(objects: &FoundObjects) -> Result<Fcp, FcpError>
+    ensures { result ≡ fcp_of_objects objects.now }
+{
+    let descriptor = objects.descriptor.ok_or(FcpError::Missing(0x82))?;
+    let kind = kind_of(descriptor).ok_or(FcpError::Bad { tag: 0x82 })?;
+    if let Some(tag) = missing_of(kind, objects) {
         return Err(FcpError::Missing(tag));
     }
-    fields_of(kind, descriptor, &objects)
+    fields_of(kind, descriptor, objects)
 }
 
 /// The kind of the file, by the first byte of its descriptor.
@@ -69,10 +68,10 @@ fn missing_of(kind: FileKind, objects: &FoundObjects) -> Option<u8>
 fn fields_of(kind: FileKind, descriptor: &[u8], objects: &FoundObjects) -> Result<Fcp, FcpError>
     ensures { result ≡ fields_of kind descriptor.now objects.now }
 {
-    let (width, count) = or_bad(0x82, shape_of(kind, descriptor))?;
-    let file_id = or_bad(0x83, id_of(objects.file_id))?;
-    let active = or_bad(0x8A, active_of(objects.life_cycle))?;
-    let size = or_bad(0x80, size_of(kind, objects.size))?;
+    let (width, count) = shape_of(kind, descriptor).ok_or(FcpError::Bad { tag: 0x82 })?;
+    let file_id = id_of(objects.file_id).ok_or(FcpError::Bad { tag: 0x83 })?;
+    let active = active_of(objects.life_cycle).ok_or(FcpError::Bad { tag: 0x8A })?;
+    let size = size_of(kind, objects.size).ok_or(FcpError::Bad { tag: 0x80 })?;
     Ok(Fcp {
         kind,
         size,
@@ -82,15 +81,6 @@ fn fields_of(kind: FileKind, descriptor: &[u8], objects: &FoundObjects) -> Resul
         active,
         arr: reference_of(objects.reference),
     })
-}
-
-fn or_bad<T>(tag: u8, field: Option<T>) -> Result<T, FcpError>
-    ensures { result ≡ or_bad tag field }
-{
-    match field {
-        Some(value) => Ok(value),
-        None => Err(FcpError::Bad { tag }),
-    }
 }
 
 /// Width and count of the rows; both are 0 where the file is not linear.

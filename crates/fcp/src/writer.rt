@@ -10,6 +10,7 @@ use tlv::put_tlv;
 
 /// Writes the template of these control parameters. The AID is that of an application's directory, which has no
 /// file id.
+#[tactic(auto, unfolding(crate::specs::Control::write_fcp))]
 pub fn write_fcp(fcp: &Fcp, aid: &[u8]) -> ArrayVec<u8, 64>
     requires { length aid.now ≤ 16 }
     ensures value { result.items ≡ write_fcp fcp.now aid.now }
