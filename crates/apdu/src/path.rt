@@ -3,6 +3,7 @@ ghost use Rattle.std.specs.Prelude.{◌≡◌, ◌≤◌, ◌<◌, length};
 ghost use Rattle.apdu.specs.Words.{path_of, same_bytes};
 
 use arrayvec::ArrayVec;
+use std::default::MadeWith;
 use std::marker::Model;
 
 /// One to three file ids below the master file, which itself is not named. Contracts see the list of the ids.
@@ -56,5 +57,14 @@ impl Path {
         ensures { result ≡ same_bytes self.now other.now }
     {
         self.ids.as_slice() == other.ids.as_slice()
+    }
+}
+
+/// What the unused places of an `ArrayVec` of paths hold.
+impl MadeWith<()> for Path {
+    fn made_with(_maker: ()) -> Path {
+        let mut ids = ArrayVec::new();
+        ids.push(0);
+        Path { ids }
     }
 }

@@ -3,7 +3,7 @@ use Rattle.std.specs.Prelude.{ℕ, ◌==◌, ◌&&◌, Bool, nat_le, if◌then�
 use Rattle.std.specs.List.{list_all}
 use Rattle.apdu.specs.Words.{pair_value, two_bytes, is_between, is_empty}
 use Rattle.tlv.specs.Objects.{Part, Parts, ber_parts, simple_parts, value_of_tag, part_bytes}
-use Rattle.refresh_cmd.specs.declared.proactive.Proactive.{Proactive}
+use Rattle.refresh_cmd.specs.Values.{ProactiveValue}
 use Rattle.refresh_cmd.specs.declared.proactive.ProactiveError.{ProactiveError}
 use Rattle.refresh_cmd.specs.declared.proactive.ProactiveError.TheVariants.{NotProactive, Tlv, Missing, BadList}
 
@@ -29,8 +29,8 @@ abbrev pub proactive_bytes : ℕ → ℕ → ℕ → List (List ℕ) → List �
 proactive_bytes number kind qualifier paths =
     part_bytes 0xD0 (part_bytes 0x81 (number ∷ kind ∷ qualifier ∷ []) ++ part_bytes 0x82 (0x81 ∷ 0x82 ∷ []) ++ list_part paths)
 
-abbrev pub write_refresh : Proactive → List ℕ
-write_refresh p = proactive_bytes p.number p.kind p.qualifier p.list.items
+abbrev pub write_refresh : ProactiveValue → List ℕ
+write_refresh p = proactive_bytes p.number p.kind p.qualifier p.list
 
 -- command details, device identities terminal to UICC, and the result
 abbrev pub write_terminal_response : ℕ → ℕ → ℕ → ℕ → List ℕ
@@ -72,23 +72,23 @@ listed_paths None = Some []
 listed_paths (Some bytes) = paths_of bytes
 
 -- the details and the list, where the identities have two bytes
-abbrev pub proactive_from : Option (List ℕ) → Option (List ℕ) → Option (List (List ℕ)) → Result Proactive ProactiveError
-proactive_from (Some (number ∷ kind ∷ qualifier ∷ [])) (Some (source ∷ target ∷ [])) (Some paths) = Ok (record { number = number; kind = kind; qualifier = qualifier; list = record { items = paths } })
+abbrev pub proactive_from : Option (List ℕ) → Option (List ℕ) → Option (List (List ℕ)) → Result ProactiveValue ProactiveError
+proactive_from (Some (number ∷ kind ∷ qualifier ∷ [])) (Some (source ∷ target ∷ [])) (Some paths) = Ok (record { number = number; kind = kind; qualifier = qualifier; list = paths })
 proactive_from (Some (number ∷ kind ∷ qualifier ∷ [])) (Some (source ∷ target ∷ [])) None = Err BadList
 proactive_from (Some (number ∷ kind ∷ qualifier ∷ [])) _ paths = Err (Missing 0x02)
 proactive_from _ identities paths = Err (Missing 0x01)
 
-abbrev pub proactive_parts : Parts → Result Proactive ProactiveError
+abbrev pub proactive_parts : Parts → Result ProactiveValue ProactiveError
 proactive_parts read = elim read.damage [
   | Some damage ↦ Err (Tlv damage)
   | None ↦ proactive_from (value_of_tag 0x01 read.parts) (value_of_tag 0x02 read.parts) (listed_paths (value_of_tag 0x12 read.parts))
 ]
 
 -- the first object, whose tag is D0
-abbrev pub proactive_object : Parts → List Part → Result Proactive ProactiveError
+abbrev pub proactive_object : Parts → List Part → Result ProactiveValue ProactiveError
 proactive_object read [] = elim read.damage [ Some damage ↦ Err (Tlv damage) | None ↦ Err (Missing 0x01) ]
 proactive_object read (p ∷ rest) = proactive_parts (simple_parts p.value)
 
-abbrev pub read_proactive : List ℕ → Result Proactive ProactiveError
+abbrev pub read_proactive : List ℕ → Result ProactiveValue ProactiveError
 read_proactive [] = Err (NotProactive 0)
 read_proactive (b ∷ bytes) = if b == 0xD0 then proactive_object (ber_parts (b ∷ bytes)) (ber_parts (b ∷ bytes)).parts else Err (NotProactive b)

@@ -2,5 +2,10 @@
 #![tactic(auto)]
 
 mod proactive;
+mod write;
 
 pub use proactive::{Proactive, ProactiveError};
+pub use write::{write_proactive, write_refresh, write_terminal_response};
+
+#[cfg(test)]
+mod tests;
