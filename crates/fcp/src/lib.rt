@@ -4,7 +4,9 @@
 mod control;
 mod rows;
 mod rule;
+mod writer;
 
 pub use control::{ArrRef, Fcp, FcpError};
 pub use rows::{FileKind, FileView, Rows};
-pub use rule::{Need, Rule};
+pub use rule::{Need, Rule, read_rule};
+pub use writer::write_fcp;
