@@ -1,6 +1,6 @@
 -- Files, directories, access rules and channels of a card, ETSI TS 102 221 clauses 8 and 9.
 use Rattle.std.specs.Prelude.{ℕ, ◌-◌, ◌*◌, ◌==◌, ◌&&◌, ◌||◌, not, Bool, true, false, nat_lt, nat_eq, if◌then◌else◌, List, [], ◌∷◌, ◌++◌, length, take, find, position, slice_get, Option, Some, None, is_some, is_none, unwrap_or, option_map, option_and_then}
-use Rattle.std.specs.List.{starts_with}
+use Rattle.std.specs.List.{list_any, starts_with}
 use Rattle.apdu.specs.Words.{same_bytes, is_empty, has_value, same_number}
 use Rattle.fcp.specs.declared.rows.FileKind.TheVariants.{Directory}
 use Rattle.fcp.specs.declared.control.ArrRef.{ArrRef}
@@ -70,7 +70,7 @@ is_below directory file = is_prefix directory file.path && nat_lt (length direct
 
 -- every proper prefix of a file's path is a directory
 abbrev pub is_directory_path : List ℕ → CardState → Bool
-is_directory_path path card = is_some (find (is_below path) card.files)
+is_directory_path path card = list_any (is_below path) card.files
 
 -- ---- channels
 

@@ -227,11 +227,14 @@ step_of_place w (Some j) c = step_of_card w j (slice_get w.cards j) c
 unfoldable pub step : World → CommandValue → World × ResponseValue
 step w c = step_of_place w w.inside c
 
+abbrev pub unverified : PinState → PinState
+unverified key = record key { verified = false }
+
 -- the basic channel alone is open, with the MF selected; no key is verified, nothing is awaited or waiting
 abbrev pub reset_card : CardState → CardState
 reset_card card = record card {
   channels = fresh_channel 0 ∷ [];
-  keys = map (λ (k : PinState). record k { verified = false }) card.keys;
+  keys = map unverified card.keys;
   awaiting = false;
   waiting = None;
 }
