@@ -2,5 +2,10 @@
 #![tactic(auto)]
 
 mod error;
+mod object;
+mod reader;
+mod writer;
 
 pub use error::TlvError;
+pub use reader::{BerReader, SimpleReader};
+pub use writer::put_tlv;
