@@ -84,10 +84,13 @@ abbrev pub listed_paths : Option (List ℕ) → Option (List (List ℕ))
 listed_paths None = Some []
 listed_paths (Some bytes) = paths_of bytes
 
--- the details and the list, where the identities have two bytes
+abbrev pub with_list : ℕ → ℕ → ℕ → Option (List (List ℕ)) → Result ProactiveValue ProactiveError
+with_list number kind qualifier None = Err BadList
+with_list number kind qualifier (Some paths) = Ok (record { number = number; kind = kind; qualifier = qualifier; list = paths })
+
+-- the details have three bytes, and the identities two, whichever they are
 abbrev pub proactive_from : Option (List ℕ) → Option (List ℕ) → Option (List (List ℕ)) → Result ProactiveValue ProactiveError
-proactive_from (Some (number ∷ kind ∷ qualifier ∷ [])) (Some (source ∷ target ∷ [])) (Some paths) = Ok (record { number = number; kind = kind; qualifier = qualifier; list = paths })
-proactive_from (Some (number ∷ kind ∷ qualifier ∷ [])) (Some (source ∷ target ∷ [])) None = Err BadList
+proactive_from (Some (number ∷ kind ∷ qualifier ∷ [])) (Some (source ∷ destination ∷ [])) paths = with_list number kind qualifier paths
 proactive_from (Some (number ∷ kind ∷ qualifier ∷ [])) _ paths = Err (Missing 0x02)
 proactive_from _ identities paths = Err (Missing 0x01)
 
