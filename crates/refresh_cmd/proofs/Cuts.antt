@@ -8,7 +8,7 @@ use Rattle.apdu.specs.Words.{pair_value, is_between, is_empty}
 use Rattle.refresh_cmd.specs.Proactive.{master_file, ids_of, with_id, split_paths, is_good_path, good_paths, full_paths}
 use Rattle.refresh_cmd.specs.Lists.{cut_bytes, with_id_seen, onto, within}
 
-other-id : (id : ℕ) → id ≢ master_file → (id == master_file) ≡ false
+pub other-id : (id : ℕ) → id ≢ master_file → (id == master_file) ≡ false
 other-id id ne = grind (arith, nat_tests)
 
 pub onto-begins : (paths : List (List ℕ)) (c : Option (List ℕ × List (List ℕ))) → onto paths (with_id_seen master_file c) ≡ within paths [] c

@@ -25,10 +25,17 @@ abbrev pub list_part : List (List ℕ) → List ℕ
 list_part [] = []
 list_part (path ∷ paths) = part_bytes 0x92 (length (path ∷ paths) ∷ flat_map path_bytes (path ∷ paths))
 
--- command details, device identities UICC to terminal, and the file list where it is not empty
+-- command details and device identities, UICC to terminal, and then these bytes
+abbrev pub with_details : ℕ → ℕ → ℕ → List ℕ → List ℕ
+with_details number kind qualifier list =
+    part_bytes 0xD0 (part_bytes 0x81 (number ∷ kind ∷ qualifier ∷ []) ++ part_bytes 0x82 (0x81 ∷ 0x82 ∷ []) ++ list)
+
+-- the file list is there where it is not empty
 abbrev pub proactive_bytes : ℕ → ℕ → ℕ → List (List ℕ) → List ℕ
-proactive_bytes number kind qualifier paths =
-    part_bytes 0xD0 (part_bytes 0x81 (number ∷ kind ∷ qualifier ∷ []) ++ part_bytes 0x82 (0x81 ∷ 0x82 ∷ []) ++ list_part paths)
+proactive_bytes number kind qualifier paths = with_details number kind qualifier (list_part paths)
+
+abbrev pub command_of : ℕ → ℕ → ℕ → List (List ℕ) → ProactiveValue
+command_of number kind qualifier paths = record { number = number; kind = kind; qualifier = qualifier; list = paths }
 
 abbrev pub write_refresh : ProactiveValue → List ℕ
 write_refresh p = proactive_bytes p.number p.kind p.qualifier p.list
@@ -86,7 +93,7 @@ listed_paths (Some bytes) = paths_of bytes
 
 abbrev pub with_list : ℕ → ℕ → ℕ → Option (List (List ℕ)) → Result ProactiveValue ProactiveError
 with_list number kind qualifier None = Err BadList
-with_list number kind qualifier (Some paths) = Ok (record { number = number; kind = kind; qualifier = qualifier; list = paths })
+with_list number kind qualifier (Some paths) = Ok (command_of number kind qualifier paths)
 
 -- the details have three bytes, and the identities two, whichever they are
 abbrev pub proactive_from : Option (List ℕ) → Option (List ℕ) → Option (List (List ℕ)) → Result ProactiveValue ProactiveError
