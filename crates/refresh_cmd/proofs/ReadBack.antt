@@ -69,7 +69,7 @@ cut-paths [] h = refl
 cut-paths (path ∷ paths) h =
     cut-two 0x3F 0x00 (flat_map two_bytes path ++ flat_map path_bytes paths)
     ∙ (ap (with_id_seen master_file) (cut-ids path (flat_map path_bytes paths) (and-left (is_below_master path) (list_all is_below_master paths) h)
-        ∙ ap (before_seen path) (cut-paths paths (and-right (is_below_master path) (list_all is_below_master paths) h)))
+    ∙ ap (before_seen path) (cut-paths paths (and-right (is_below_master path) (list_all is_below_master paths) h)))
     ∙ rw append-nil refl)
 
 full-is : (bytes : List ℕ) → full_paths bytes ≡ onto [] (cut_bytes bytes)
@@ -109,15 +109,15 @@ parts-without number kind qualifier = refl
 
 parts-with : (number kind qualifier : ℕ) (list : List ℕ) → length list < 0x80 →
     simple_parts (0x81 ∷ 3 ∷ number ∷ kind ∷ qualifier ∷ 0x82 ∷ 2 ∷ 0x81 ∷ 0x82 ∷ 0x92 ∷ length list ∷ list)
-        ≡ record { parts = two_parts number kind qualifier (record { tag = 0x12; value = list } ∷ []); damage = None }
+    ≡ record { parts = two_parts number kind qualifier (record { tag = 0x12; value = list } ∷ []); damage = None }
 parts-with number kind qualifier list short =
     parts-front simple_tag (length (3 ∷ number ∷ kind ∷ qualifier ∷ 0x82 ∷ 2 ∷ 0x81 ∷ 0x82 ∷ 0x92 ∷ length list ∷ list)) 0 0x81 0x01 (number ∷ kind ∷ qualifier ∷ [])
-        (0x82 ∷ 2 ∷ 0x81 ∷ 0x82 ∷ 0x92 ∷ length list ∷ list) refl (lit< tt)
+    (0x82 ∷ 2 ∷ 0x81 ∷ 0x82 ∷ 0x92 ∷ length list ∷ list) refl (lit< tt)
     ∙ ap (with_part 0x01 (number ∷ kind ∷ qualifier ∷ [])) (
-        parts-front simple_tag (length (number ∷ kind ∷ qualifier ∷ 0x82 ∷ 2 ∷ 0x81 ∷ 0x82 ∷ 0x92 ∷ length list ∷ list)) 5 0x82 0x02 (0x81 ∷ 0x82 ∷ [])
-            (0x92 ∷ length list ∷ list) refl (lit< tt)
-        ∙ ap (with_part 0x02 (0x81 ∷ 0x82 ∷ [])) (
-            parts-last simple_tag (length (kind ∷ qualifier ∷ 0x82 ∷ 2 ∷ 0x81 ∷ 0x82 ∷ 0x92 ∷ length list ∷ list)) 9 0x92 0x12 list refl short))
+    parts-front simple_tag (length (number ∷ kind ∷ qualifier ∷ 0x82 ∷ 2 ∷ 0x81 ∷ 0x82 ∷ 0x92 ∷ length list ∷ list)) 5 0x82 0x02 (0x81 ∷ 0x82 ∷ [])
+    (0x92 ∷ length list ∷ list) refl (lit< tt)
+    ∙ ap (with_part 0x02 (0x81 ∷ 0x82 ∷ [])) (
+    parts-last simple_tag (length (kind ∷ qualifier ∷ 0x82 ∷ 2 ∷ 0x81 ∷ 0x82 ∷ 0x92 ∷ length list ∷ list)) 9 0x92 0x12 list refl short))
 
 good-list : (paths : List (List ℕ)) → length paths ≤ 8 → list_all is_good_path paths ≡ true → good_paths ([], paths) ≡ Some paths
 good-list paths few good = let e : nat_le (length paths) 64 ≡ true = grind (arith, nat_tests) in rw good (rw e refl)
@@ -150,7 +150,7 @@ reads-object value short = ap (λ (read : Parts). proactive_object read.parts re
 
 reads-written : (number kind qualifier : ℕ) (list : List ℕ) (paths : List (List ℕ)) → length list < 0x70 → paths_of list ≡ Some paths →
     read_proactive (with_details number kind qualifier (0x92 ∷ length list ∷ list))
-        ≡ Ok (command_of number kind qualifier paths)
+    ≡ Ok (command_of number kind qualifier paths)
 reads-written number kind qualifier list paths short e =
     ap read_proactive (part-short 0xD0 (0x81 ∷ 3 ∷ number ∷ kind ∷ qualifier ∷ 0x82 ∷ 2 ∷ 0x81 ∷ 0x82 ∷ 0x92 ∷ length list ∷ list) (omega arith))
     ∙ (reads-object (0x81 ∷ 3 ∷ number ∷ kind ∷ qualifier ∷ 0x82 ∷ 2 ∷ 0x81 ∷ 0x82 ∷ 0x92 ∷ length list ∷ list) (omega arith)

@@ -8,5 +8,5 @@ abbrev pub invariant-loop-path : goal.invariant-loop-path
 invariant-loop-path l = record {
   items : l.out.items ≡ flat_map path_bytes (take l.path-index l.paths);
   len : array_vec_len l.out ≤ 8 * l.path-index;
-  good : list_all is_good_path (take l.path-index l.paths) ≡ true
+  good : list_all is_good_path (take l.path-index l.paths) ≡ true;
 }
