@@ -1,5 +1,5 @@
 // Lists of bytes, and text, as contracts see them: a list of bytes.
-ghost use Rattle.std.specs.Prelude.{◌≡◌, IfOk, IsUtf8, string_bytes};
+ghost use Rattle.std.specs.Prelude.{◌≡◌, length, IfOk, IsUtf8, string_bytes};
 
 use crate::Memory;
 use std::alloc::Global;
@@ -40,6 +40,14 @@ impl Bytes {
         ensures { result.now ≡ self.now }
     {
         self.items.as_slice()
+    }
+
+    /// Writes over the bytes, as many as there are, which takes no memory.
+    pub fn copy_from_slice(&mut self, bytes: &[u8])
+        requires { length bytes.now ≡ length self.old }
+        ensures { self.new ≡ bytes.now }
+    {
+        self.items.as_mut_slice().copy_from_slice(bytes);
     }
 }
 

@@ -1,5 +1,5 @@
 -- What a file of a card holds, ETSI TS 102 221 clause 8.2.2.
-use Rattle.std.specs.Prelude.{◌≡◌, ◌≤◌, ◌<◌, ◌^◌, ℕ, Bool, true, false, List, [], ◌∷◌, length, All}
+use Rattle.std.specs.Prelude.{◌≡◌, ◌≤◌, ◌<◌, ◌^◌, ℕ, Bool, true, false, List, [], ◌∷◌, length, slice_set, All}
 use Rattle.fcp.specs.declared.rows.FileKind.{FileKind}
 use Rattle.fcp.specs.declared.rows.FileKind.TheVariants.{Transparent, Linear, Directory}
 
@@ -18,6 +18,10 @@ transparent bytes = record { kind = Transparent; width = length bytes; rows = by
 
 abbrev pub linear : ℕ → List (List ℕ) → Content
 linear width rows = record { kind = Linear; width = width; rows = rows }
+
+-- the content with another row at index i
+abbrev pub with_row : ℕ → List ℕ → Content → Content
+with_row i row content = record { kind = content.kind; width = content.width; rows = slice_set content.rows i row }
 
 abbrev pub is_linear : FileKind → Bool
 is_linear Transparent = false

@@ -1,6 +1,8 @@
 -- File control parameters, ETSI TS 102 221 clause 11.1.1.3, and access rules in expanded form, clause 9.2.
-use Rattle.std.specs.Prelude.{ℕ, ◌+◌, ◌*◌, ◌%◌, ◌==◌, ◌&&◌, not, Bool, true, false, nat_le, if◌then◌else◌, List, [], ◌∷◌, ◌++◌, length, Option, Some, None, is_some, Result, Ok, Err}
+use Rattle.std.specs.Prelude.{◌≡◌, ◌≤◌, ℕ, ◌+◌, ◌*◌, ◌%◌, ◌==◌, ◌&&◌, not, Bool, true, false, nat_le, if◌then◌else◌, List, [], ◌∷◌, ◌++◌, length, Option, Some, None, is_none, IsSome, slice_index, ◌^◌, Result, Ok, Err}
+use Rattle.std.specs.Borrow.{Bor}
 use Rattle.apdu.specs.Words.{pair_value, two_bytes, is_bit, is_one_of, is_between, same_bytes}
+use Rattle.tlv.specs.declared.error.TlvError.{TlvError}
 use Rattle.tlv.specs.Objects.{Part, Parts, ber_parts, value_of_tag, part_bytes}
 use Rattle.fcp.specs.declared.rows.FileKind.{FileKind}
 use Rattle.fcp.specs.declared.rows.FileKind.TheVariants.{Transparent, Linear, Directory}
@@ -12,6 +14,7 @@ use Rattle.fcp.specs.declared.rule.Rule.{Rule}
 use Rattle.fcp.specs.declared.control.FcpError.{FcpError}
 use Rattle.fcp.specs.declared.control.FcpError.TheVariants.{Tlv, Missing, Bad}
 use Rattle.fcp.specs.Content.{is_linear, is_transparent, is_directory}
+use Rattle.fcp.specs.Objects.{Objects, objects_read}
 
 -- ---- writing
 
@@ -26,17 +29,33 @@ abbrev pub identity_part : Option ℕ → List ℕ → List ℕ
 identity_part (Some id) aid = part_bytes 0x83 (two_bytes id)
 identity_part None aid = part_bytes 0x84 aid
 
+-- operational and activated, or deactivated
+abbrev pub life_cycle_byte : Bool → ℕ
+life_cycle_byte active = if active then 5 else 4
+
 -- the reference to EF_ARR: file id and record number
 abbrev pub reference_part : Option ArrRef → List ℕ
 reference_part None = []
 reference_part (Some r) = part_bytes 0x8B (two_bytes r.file_id ++ r.row ∷ [])
 
 abbrev pub size_part : FileKind → ℕ → List ℕ
-size_part kind size = if is_directory kind then [] else part_bytes 0x80 (two_bytes size)
+size_part Transparent size = part_bytes 0x80 (two_bytes size)
+size_part Linear size = part_bytes 0x80 (two_bytes size)
+size_part Directory size = []
 
--- file descriptor, identity, life cycle status, security attributes and file size, in template 62
-abbrev pub write_fcp : Fcp → List ℕ → List ℕ
-write_fcp f aid = part_bytes 0x62 (part_bytes 0x82 (descriptor_bytes f.kind f.width f.count) ++ identity_part f.file_id aid ++ part_bytes 0x8A ((if f.active then 5 else 4) ∷ []) ++ reference_part f.arr ++ size_part f.kind f.size)
+-- file descriptor, identity, life cycle status, security attributes and file size
+abbrev pub template_bytes : Fcp → List ℕ → List ℕ
+template_bytes f aid = part_bytes 0x82 (descriptor_bytes f.kind f.width f.count) ++ identity_part f.file_id aid ++ part_bytes 0x8A (life_cycle_byte f.active ∷ []) ++ reference_part f.arr ++ size_part f.kind f.size
+
+-- in template 62
+unfoldable pub write_fcp : Fcp → List ℕ → List ℕ
+write_fcp f aid = part_bytes 0x62 (template_bytes f aid)
+
+-- a file has an id; a transparent one at most 32767 bytes and no rows, a linear one rows of 1 to 255 bytes; a directory has neither size nor rows
+abbrev pub Describes : FileKind → Fcp → Type 0
+Describes Transparent f = IsSome f.file_id × (f.size ≤ 32767) × (f.width ≡ 0) × (f.count ≡ 0)
+Describes Linear f = IsSome f.file_id × (1 ≤ f.width) × (f.width ≤ 255)
+Describes Directory f = (f.size ≡ 0) × (f.width ≡ 0) × (f.count ≡ 0)
 
 -- ---- reading
 
@@ -48,116 +67,122 @@ abbrev pub kind_of : List ℕ → Option FileKind
 kind_of [] = None
 kind_of (b ∷ bytes) = kind_of_byte b
 
--- width and count of a linear file
-abbrev pub shape_of : List ℕ → ℕ × ℕ
-shape_of (b ∷ c ∷ high ∷ low ∷ count ∷ rest) = (pair_value high low, count)
-shape_of _ = (0, 0)
+-- width and count, where the width is 1 to 255
+abbrev pub rows_shape : ℕ → ℕ → Option (ℕ × ℕ)
+rows_shape width count = if is_between 1 255 width then Some (width, count) else None
 
--- the descriptor has at least two bytes, and for a linear file five with a width from 1 to 255
-abbrev pub is_good_descriptor : List ℕ → Bool
-is_good_descriptor bytes = elim (kind_of bytes) [
-  | None ↦ false
-  | Some kind ↦ if is_linear kind then nat_le 5 (length bytes) && is_between 1 255 (shape_of bytes).0 else nat_le 2 (length bytes)
-]
+-- width and count of a descriptor, which has two bytes at least, and five for a linear file; both are 0 where it is not linear
+abbrev pub shape_of : FileKind → List ℕ → Option (ℕ × ℕ)
+shape_of Transparent bytes = if nat_le 2 (length bytes) then Some (0, 0) else None
+shape_of Linear bytes = if nat_le 5 (length bytes) then rows_shape (pair_value (slice_index bytes 2) (slice_index bytes 3)) (slice_index bytes 4) else None
+shape_of Directory bytes = if nat_le 2 (length bytes) then Some (0, 0) else None
 
--- the number of bytes, most significant first
-abbrev pub number_of_bytes : ℕ → List ℕ → ℕ
-number_of_bytes n [] = n
-number_of_bytes n (b ∷ bytes) = number_of_bytes (n * 256 + b) bytes
+-- an id of two bytes, where there is one
+abbrev pub id_of : Option (List ℕ) → Option (Option ℕ)
+id_of None = Some None
+id_of (Some (high ∷ low ∷ [])) = Some (Some (pair_value high low))
+id_of (Some _) = None
 
--- life cycle status: operational and activated, or deactivated
-abbrev pub is_good_life_cycle : Option (List ℕ) → Bool
-is_good_life_cycle None = true
-is_good_life_cycle (Some (b ∷ [])) = is_between 4 7 b
-is_good_life_cycle (Some _) = false
+-- operational and activated, or deactivated
+abbrev pub active_of_byte : ℕ → Option Bool
+active_of_byte b = if is_one_of b (5 ∷ 7 ∷ []) then Some true else if is_one_of b (4 ∷ 6 ∷ []) then Some false else None
 
-abbrev pub is_active_life_cycle : Option (List ℕ) → Bool
-is_active_life_cycle (Some (b ∷ [])) = is_one_of b (5 ∷ 7 ∷ [])
-is_active_life_cycle _ = true
+-- a life cycle status of one byte; a file without one is activated
+abbrev pub active_of : Option (List ℕ) → Option Bool
+active_of None = Some true
+active_of (Some (b ∷ [])) = active_of_byte b
+active_of (Some _) = None
 
-abbrev pub is_good_id : Option (List ℕ) → Bool
-is_good_id None = true
-is_good_id (Some bytes) = length bytes == 2
+-- the number that one to four bytes write, most significant first
+abbrev pub number_of : List ℕ → Option ℕ
+number_of (a ∷ []) = Some a
+number_of (a ∷ b ∷ []) = Some (a * 2 ^ 8 + b)
+number_of (a ∷ b ∷ c ∷ []) = Some (a * 2 ^ 16 + b * 2 ^ 8 + c)
+number_of (a ∷ b ∷ c ∷ d ∷ []) = Some (a * 2 ^ 24 + b * 2 ^ 16 + c * 2 ^ 8 + d)
+number_of _ = None
 
-abbrev pub id_of : Option (List ℕ) → Option ℕ
-id_of (Some (high ∷ low ∷ [])) = Some (pair_value high low)
-id_of _ = None
+abbrev pub at_most : ℕ → Option ℕ → Option ℕ
+at_most limit None = None
+at_most limit (Some n) = if nat_le n limit then Some n else None
 
--- the size is not read for a directory
-abbrev pub is_good_size : FileKind → Option (List ℕ) → Bool
-is_good_size kind None = true
-is_good_size Directory (Some bytes) = true
-is_good_size Transparent (Some bytes) = is_between 1 4 (length bytes) && nat_le (number_of_bytes 0 bytes) 32767
-is_good_size Linear (Some bytes) = is_between 1 4 (length bytes) && nat_le (number_of_bytes 0 bytes) 65535
-
-abbrev pub size_of : FileKind → Option (List ℕ) → ℕ
-size_of Directory size = 0
-size_of kind None = 0
-size_of kind (Some bytes) = number_of_bytes 0 bytes
+-- the size, which is 0 where none is told, and is not read for a directory
+abbrev pub size_of : FileKind → Option (List ℕ) → Option ℕ
+size_of Directory size = Some 0
+size_of Transparent None = Some 0
+size_of Transparent (Some bytes) = at_most 32767 (number_of bytes)
+size_of Linear None = Some 0
+size_of Linear (Some bytes) = at_most 65535 (number_of bytes)
 
 -- three bytes are the reference, another length is none
 abbrev pub reference_of : Option (List ℕ) → Option ArrRef
 reference_of (Some (high ∷ low ∷ row ∷ [])) = Some (record { file_id = pair_value high low; row = row })
 reference_of _ = None
 
--- the fields of a template that has a descriptor
-abbrev pub template_fields : List ℕ → List Part → Result Fcp FcpError
-template_fields descriptor parts = fields (kind_of descriptor)
-  where
-    id : Option (List ℕ)
-    id = value_of_tag 0x83 parts
+-- the object that has to be there and is not: the id of a file, and the size of a transparent one
+abbrev pub missing_of : FileKind → Objects → Option ℕ
+missing_of kind o =
+    if not (is_directory kind) && is_none o.file_id then Some 0x83
+    else if is_transparent kind && is_none o.size then Some 0x80
+    else None
 
-    size : Option (List ℕ)
-    size = value_of_tag 0x80 parts
+-- steps in order, of which the first refusal is the whole's
+infixl 10 ◌>>=◌
+abbrev pub ◌>>=◌ : {A B E : Type 0} → Result A E → (A → Result B E) → Result B E
+Ok x >>= next = next x
+Err error >>= next = Err error
 
-    life_cycle : Option (List ℕ)
-    life_cycle = value_of_tag 0x8A parts
+abbrev pub or_bad : {A : Type 0} → ℕ → Option A → Result A FcpError
+or_bad tag None = Err (Bad tag)
+or_bad tag (Some x) = Ok x
 
-    is_missing : Option (List ℕ) → Bool
-    is_missing part = not (is_some part)
+-- the fields, read in the order of descriptor, id, life cycle and size
+abbrev pub fields_of : FileKind → List ℕ → Objects → Result Fcp FcpError
+fields_of kind descriptor o = do
+  shape ← or_bad 0x82 (shape_of kind descriptor)
+  id ← or_bad 0x83 (id_of o.file_id)
+  active ← or_bad 0x8A (active_of o.life_cycle)
+  size ← or_bad 0x80 (size_of kind o.size)
+  Ok (record { kind = kind; size = size; file_id = id; width = shape.0; count = shape.1; active = active; arr = reference_of o.reference })
 
-    fields : Option FileKind → Result Fcp FcpError
-    fields None = Err (Bad 0x82)
-    fields (Some kind) =
-        if not (is_directory kind) && is_missing id then Err (Missing 0x83)
-        else if is_transparent kind && is_missing size then Err (Missing 0x80)
-        else if not (is_good_descriptor descriptor) then Err (Bad 0x82)
-        else if not (is_good_id id) then Err (Bad 0x83)
-        else if not (is_good_life_cycle life_cycle) then Err (Bad 0x8A)
-        else if not (is_good_size kind size) then Err (Bad 0x80)
-        else Ok (record {
-          kind = kind;
-          size = size_of kind size;
-          file_id = id_of id;
-          width = if is_linear kind then (shape_of descriptor).0 else 0;
-          count = if is_linear kind then (shape_of descriptor).1 else 0;
-          active = is_active_life_cycle life_cycle;
-          arr = reference_of (value_of_tag 0x8B parts);
-        })
+abbrev pub or_missing : {A : Type 0} → ℕ → Option A → Result A FcpError
+or_missing tag None = Err (Missing tag)
+or_missing tag (Some x) = Ok x
 
+abbrev pub unless_missing : Option ℕ → Result Fcp FcpError → Result Fcp FcpError
+unless_missing None read = read
+unless_missing (Some tag) read = Err (Missing tag)
+
+-- what has to be there is looked for before the fields are read
+abbrev pub fcp_of_objects : Objects → Result Fcp FcpError
+fcp_of_objects o = do
+  descriptor ← or_missing 0x82 o.descriptor
+  kind ← or_bad 0x82 (kind_of descriptor)
+  unless_missing (missing_of kind o) (fields_of kind descriptor o)
+
+abbrev pub tlv_error : {A : Type 0} → Result A TlvError → Result A FcpError
+tlv_error (Ok x) = Ok x
+tlv_error (Err error) = Err (Tlv error)
+
+-- a template is read to its end before anything is looked for in it
 abbrev pub template_of : Parts → Result Fcp FcpError
-template_of read = elim read.damage [
-  | Some damage ↦ Err (Tlv damage)
-  | None ↦ elim (value_of_tag 0x82 read.parts) [
-    | None ↦ Err (Missing 0x82)
-    | Some descriptor ↦ template_fields descriptor read.parts
-  ]
-]
+template_of read = do
+  o ← tlv_error (objects_read read)
+  fcp_of_objects o
 
 -- the first object is the template; what follows it is not read
-abbrev pub fcp_of_parts : List Part → Parts → Result Fcp FcpError
-fcp_of_parts [] read = elim read.damage [ Some damage ↦ Err (Tlv damage) | None ↦ Err (Missing 0x62) ]
-fcp_of_parts (p ∷ rest) read = if p.tag == 0x62 then template_of (ber_parts p.value) else Err (Missing 0x62)
+abbrev pub fcp_of_parts : List Part → Option TlvError → Result Fcp FcpError
+fcp_of_parts (p ∷ rest) damage = if p.tag == 0x62 then template_of (ber_parts p.value) else Err (Missing 0x62)
+fcp_of_parts [] (Some error) = Err (Tlv error)
+fcp_of_parts [] None = Err (Missing 0x62)
 
-abbrev pub read_fcp : List ℕ → Result Fcp FcpError
-read_fcp bytes = fcp_of_parts (ber_parts bytes).parts (ber_parts bytes)
+unfoldable pub read_fcp : List ℕ → Result Fcp FcpError
+read_fcp bytes = fcp_of_parts (ber_parts bytes).parts (ber_parts bytes).damage
 
 -- ---- access rules
 
 -- a user authentication by the PIN of this key reference: 83 01 KK 95 01 08
 abbrev pub key_of_condition : List ℕ → Need
-key_of_condition (a ∷ b ∷ key ∷ c ∷ d ∷ e ∷ []) = if same_bytes (a ∷ b ∷ c ∷ d ∷ e ∷ []) (0x83 ∷ 0x01 ∷ 0x95 ∷ 0x01 ∷ 0x08 ∷ []) then Key key else Never
-key_of_condition _ = Never
+key_of_condition bytes = if (length bytes == 6) && same_bytes bytes (0x83 ∷ 0x01 ∷ slice_index bytes 2 ∷ 0x95 ∷ 0x01 ∷ 0x08 ∷ []) then Key (slice_index bytes 2) else Never
 
 -- what a condition object asks for: 90 00 always, 97 00 never, A4 a key
 abbrev pub need_of : ℕ → List ℕ → Need
@@ -166,13 +191,13 @@ need_of tag value =
     else if tag == 0xA4 then key_of_condition value
     else Never
 
--- an access mode object 80 of one byte that has this bit
+-- an access mode of one byte that has this bit
+abbrev pub is_mode : ℕ → List ℕ → Bool
+is_mode bit bytes = (length bytes == 1) && is_bit bit (slice_index bytes 0)
+
+-- an access mode object, tag 80, that has this bit
 abbrev pub has_mode : ℕ → Part → Bool
-has_mode bit p = (p.tag == 0x80) && mode p.value
-  where
-    mode : List ℕ → Bool
-    mode (b ∷ []) = is_bit bit b
-    mode _ = false
+has_mode bit p = (p.tag == 0x80) && is_mode bit p.value
 
 -- the first pair of an access mode with this bit and a condition decides
 abbrev pub need_for : ℕ → List Part → Need
@@ -180,5 +205,10 @@ need_for bit (mode ∷ condition ∷ rest) = if has_mode bit mode then need_of c
 need_for bit _ = Never
 
 -- bit 1 of the access mode is reading, bit 2 updating
-abbrev pub read_rule : List ℕ → Rule
+unfoldable pub read_rule : List ℕ → Rule
 read_rule bytes = record { read = need_for 1 (ber_parts bytes).parts; update = need_for 2 (ber_parts bytes).parts }
+
+-- two parts were taken from the front, or there were not two
+abbrev pub GivesPair : List Part → List Part → Option ((ℕ × Bor (List ℕ)) × (ℕ × Bor (List ℕ))) → Type 0
+GivesPair old new None = length old ≤ 1
+GivesPair old new (Some pair) = old ≡ (record { tag = pair.0.0; value = pair.0.1.now }) ∷ (record { tag = pair.1.0; value = pair.1.1.now }) ∷ new

@@ -1,5 +1,5 @@
 // What a file holds.
-ghost use Rattle.std.specs.Prelude.{◌≡◌, ◌≤◌, ◌<◌, ◌^◌, ◌∷◌, ◌++◌, [], length, slice_get, slice_set, option_map, IfOk, OnOk, OnErr, List, ℕ, Option};
+ghost use Rattle.std.specs.Prelude.{◌≡◌, ◌≤◌, ◌<◌, ◌^◌, ◌∷◌, ◌++◌, [], length, slice_get, slice_set, option_map, IfOk, OnOk, OnErr, List, ℕ, Option, IsTrue};
 
 use apdu::{Bytes, Memory, Path, Sequence};
 use std::alloc::Global;
@@ -16,6 +16,7 @@ pub enum FileKind {
 /// What a file holds: its kind, the width of a row, and its rows. A transparent file has one row, as wide as the file.
 #[derive(Drop)]
 pub struct Rows {
+    alloc: Global,
     file_kind: FileKind,
     row_width: u16,
     items: Sequence<Bytes>,
@@ -32,7 +33,7 @@ impl Model for Rows {
 }
 
 impl Rows {
-    ghost use Rattle.fcp.specs.Content.{transparent, missing, linear, IsContent};
+    ghost use Rattle.fcp.specs.Content.{transparent, missing, linear, is_linear, with_row, IsContent};
 
     /// A transparent file of these bytes.
     pub fn transparent(alloc: Global, bytes: &[u8]) -> Result<Rows, Memory>
@@ -42,6 +43,7 @@ impl Rows {
         let mut items = Sequence::new(alloc);
         items.push(Bytes::from_slice(alloc, bytes)?)?;
         Ok(Rows {
+            alloc,
             file_kind: FileKind::Transparent,
             row_width: bytes.len() as u16,
             items,
@@ -54,6 +56,7 @@ impl Rows {
         ensures { result ≡ linear width [] }
     {
         Rows {
+            alloc,
             file_kind: FileKind::Linear,
             row_width: width,
             items: Sequence::new(alloc),
@@ -93,6 +96,27 @@ impl Rows {
             Some(row) => Some(row.as_slice()),
             None => None,
         }
+    }
+
+    /// Appends a row to a linear file.
+    pub fn push(&mut self, row: &[u8]) -> Result<(), Memory>
+        requires linear { IsTrue (is_linear self.old.kind) }
+        requires room { length self.old.rows < 255 }
+        requires width { length row.now ≡ self.old.width }
+        ensures ok { OnOk result (self.new ≡ linear self.old.width (self.old.rows ++ row.now ∷ [])) }
+        ensures err { OnErr result (self.new ≡ self.old) }
+    {
+        let row = Bytes::from_slice(self.alloc, row)?;
+        self.items.push(row)
+    }
+
+    /// Writes over a row, which takes no memory.
+    pub fn set(&mut self, i: usize, row: &[u8])
+        requires within { i < length self.old.rows }
+        requires width { length row.now ≡ self.old.width }
+        ensures { self.new ≡ with_row i row.now self.old }
+    {
+        self.items.at_mut(i).copy_from_slice(row);
     }
 }
 
