@@ -1,11 +1,9 @@
 -- Steps of the reading of a file list.
-use Rattle.std.proofs.Common.{◌≡◌, ◌≢◌, ℕ, ◌+◌, ◌*◌, ◌<◌, ◌≤◌, Bool, true, false, ◌&&◌, ◌==◌, nat_le, if◌then◌else◌, List, [], ◌∷◌, ◌++◌, length, Option, Some, None, option_map, refl, ap, sym, ◌∙◌, arith, append_assoc, append-nil, length-append}
+use Rattle.std.proofs.Common.{◌≡◌, ◌≢◌, ℕ, ◌<◌, ◌≤◌, Bool, true, false, ◌&&◌, ◌==◌, nat_le, List, [], ◌∷◌, ◌++◌, length, Option, Some, None, refl, ap, sym, arith, append_assoc, append-nil, length-append}
 use Rattle.std.specs.List.{list_all}
-use Rattle.std.proofs.lemmas.List.Folds.{list_all-append}
-use Rattle.std.proofs.lemmas.Grind.{common_steps}
 use Rattle.std.proofs.lemmas.Bool.Decides.{nat_tests}
-use Rattle.apdu.specs.Words.{pair_value, is_between, is_empty}
-use Rattle.refresh_cmd.specs.Proactive.{master_file, ids_of, with_id, split_paths, is_good_path, good_paths, full_paths}
+use Rattle.apdu.specs.Words.{is_empty}
+use Rattle.refresh_cmd.specs.Proactive.{master_file, is_good_path, good_paths}
 use Rattle.refresh_cmd.specs.Lists.{cut_bytes, with_id_seen, onto, within}
 
 pub other-id : (id : ℕ) → id ≢ master_file → (id == master_file) ≡ false
@@ -39,7 +37,7 @@ pub within-master : (id : ℕ) (rest : List ℕ) (c : Option (List ℕ × List (
 within-master id rest c e is paths ids = rw e (rw is (within-ends paths ids c))
 
 pub within-last : (paths : List (List ℕ)) (ids : List ℕ) (rest : List ℕ) → length rest < 2 → within paths ids (cut_bytes rest) ≡ onto (paths ++ ids ∷ []) (cut_bytes rest)
-within-last paths ids [] h = rw (append-nil, append-nil) refl
+within-last paths ids [] h = rw (append-nil ids, append-nil (paths ++ ids ∷ [])) refl
 within-last paths ids (b ∷ []) h = refl
 within-last paths ids (b ∷ c ∷ rest) h = absurd (omega arith)
 

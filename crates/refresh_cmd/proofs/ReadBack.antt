@@ -1,17 +1,15 @@
 -- A command that was written is read back.
-use Rattle.std.proofs.Common.{◌≡◌, ◌≢◌, ℕ, suc, zero, ◌+◌, ◌*◌, ◌/◌, ◌%◌, ◌<◌, ◌≤◌, Bool, true, false, not, ◌&&◌, ◌==◌, nat_le, nat_lt, if◌then◌else◌, List, [], ◌∷◌, ◌++◌, length, take, drop, flat_map, Option, Some, None, option_map, Result, Ok, Err, refl, ap, sym, ◌∙◌, arith, append_assoc, append-nil, length-append, lit<}
+use Rattle.std.proofs.Common.{◌≡◌, ◌≢◌, ℕ, suc, zero, ◌+◌, ◌*◌, ◌/◌, ◌%◌, ◌<◌, ◌≤◌, Bool, true, false, ◌&&◌, ◌==◌, nat_le, nat_lt, List, [], ◌∷◌, ◌++◌, length, flat_map, Option, Some, None, option_map, Ok, refl, ap, sym, ◌∙◌, arith, append-nil, length-append, lit<}
 use Rattle.std.specs.List.{list_all}
 use Rattle.std.proofs.Math.Seq.{take-append_seam, drop-append_seam}
-use Rattle.std.proofs.lemmas.Grind.{common_steps}
 use Rattle.std.proofs.lemmas.Bool.Decides.{nat_tests}
-use Rattle.apdu.specs.Words.{pair_value, two_bytes, is_between, is_one_of, is_empty}
+use Rattle.apdu.specs.Words.{pair_value, two_bytes}
 use Rattle.tlv.specs.declared.object.TagByte.{TagByte}
 use Rattle.tlv.specs.declared.object.TagByte.TheVariants.{Begins}
-use Rattle.tlv.specs.Objects.{Part, Parts, with_part, stopped, parts_from, parts_by, front, with_tag, with_length, with_value, object, ber_tag, simple_tag, ber_parts, simple_parts, part_bytes, value_of_tag}
-use Rattle.refresh_cmd.specs.Values.{ProactiveValue}
-use Rattle.refresh_cmd.specs.Proactive.{master_file, path_bytes, list_part, with_details, proactive_bytes, command_of, is_below_master, ids_of, with_id, split_paths, is_good_path, good_paths, full_paths, paths_of, listed_paths, if_counted, with_list, proactive_from, proactive_parts, proactive_object, read_proactive, first_byte}
+use Rattle.tlv.specs.Objects.{Part, Parts, with_part, stopped, parts_from, ber_tag, simple_tag, simple_parts, part_bytes}
+use Rattle.refresh_cmd.specs.Proactive.{master_file, path_bytes, with_details, proactive_bytes, command_of, is_below_master, ids_of, split_paths, is_good_path, good_paths, full_paths, paths_of, if_counted, with_list, proactive_parts, proactive_object, read_proactive}
 use Rattle.refresh_cmd.specs.Lists.{cut_bytes, with_id_seen, onto}
-use Rattle.refresh_cmd.proofs.Cuts.{other-id, onto-end}
+use Rattle.refresh_cmd.proofs.Cuts.{other-id}
 
 -- ---- the list
 

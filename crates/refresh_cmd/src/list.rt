@@ -3,10 +3,9 @@ ghost use Rattle.std.specs.Prelude.{◌≡◌, ◌+◌, ◌<◌, ◌++◌, ◌�
 ghost use Rattle.refresh_cmd.specs.Proactive as spec;
 ghost use Rattle.refresh_cmd.specs.Lists.{cut_bytes, with_id_seen, onto};
 
+use crate::MASTER_FILE;
 use apdu::Path;
 use arrayvec::ArrayVec;
-
-const MASTER_FILE: u16 = 0x3F00;
 
 /// The paths of a file list, where it is a count and as many full paths.
 pub fn read_list(bytes: &[u8]) -> Option<ArrayVec<Path, 64>>

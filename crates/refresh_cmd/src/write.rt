@@ -5,11 +5,9 @@ ghost use Rattle.arrayvec.specs.ArrayVec.{array_vec_len};
 ghost use Rattle.apdu.specs.Words.{two_bytes};
 ghost use Rattle.refresh_cmd.specs.Proactive as spec;
 
-use crate::Proactive;
+use crate::{MASTER_FILE, Proactive};
 use apdu::Path;
 use arrayvec::ArrayVec;
-
-const MASTER_FILE: u16 = 0x3F00;
 
 /// The bytes of a proactive command. Its file list is left out where it has no path.
 pub fn write_refresh(p: &Proactive) -> ArrayVec<u8, 128>

@@ -1,5 +1,5 @@
-use Rattle.std.proofs.Common.{◌∙◌, ap, sym, arith, List, ℕ, ◌≡◌, ◌<◌, ◌≤◌, ◌++◌, [], ◌∷◌, length}
-use Rattle.refresh_cmd.specs.Lists.{cut_bytes, onto, within}
+use Rattle.std.proofs.Common.{◌∙◌, ap, sym, arith, List, ℕ, length}
+use Rattle.refresh_cmd.specs.Lists.{cut_bytes, within}
 use Rattle.refresh_cmd.proofs.Cuts.{within-more, within-long, within-master, within-last, onto-empty, when_full, no_ids}
 use Rattle.refresh_cmd.proofs.list.read_path.Goals as goal
 use Rattle.refresh_cmd.proofs.list.read_path.Goals.{in-Some+then-id-eq-MASTER_FILE, in_default}

@@ -1,5 +1,5 @@
-use Rattle.std.proofs.Common.{◌∙◌, ap, sym, arith, List, ℕ, ◌≡◌, ◌<◌, ◌≤◌, ◌++◌, [], ◌∷◌, length}
-use Rattle.refresh_cmd.specs.Lists.{cut_bytes, onto}
+use Rattle.std.proofs.Common.{◌∙◌, sym}
+use Rattle.refresh_cmd.specs.Lists.{cut_bytes}
 use Rattle.refresh_cmd.proofs.Cuts.{onto-full, onto-end, when_full, when_empty}
 use Rattle.refresh_cmd.proofs.list.read_paths.Goals as goal
 
