@@ -1,5 +1,5 @@
 -- Small words on bytes, lists and options that the definitions of all crates share.
-use Rattle.std.specs.Prelude.{ℕ, ◌+◌, ◌-◌, ◌*◌, ◌/◌, ◌%◌, ◌^◌, ◌==◌, ◌&&◌, Bool, true, false, nat_le, nat_eq, List, [], ◌∷◌, ◌++◌, length, replicate, Option, Some, None}
+use Rattle.std.specs.Prelude.{ℕ, ◌+◌, ◌-◌, ◌*◌, ◌/◌, ◌%◌, ◌^◌, ◌==◌, ◌&&◌, Bool, true, false, nat_le, nat_eq, if◌then◌else◌, List, [], ◌∷◌, ◌++◌, length, replicate, Option, Some, None}
 use Rattle.std.specs.Cmp.Lexicographic.{pointwise}
 use Rattle.std.specs.List.{list_any}
 
@@ -57,6 +57,10 @@ has_value test (Some x) = test x
 abbrev pub or_else : {A : Type 0} → Option A → Option A → Option A
 or_else None b = b
 or_else (Some a) b = Some a
+
+-- the path of these ids: one to three below the master file, which itself stands as none
+abbrev pub path_of : List ℕ → Option (List ℕ)
+path_of ids = if is_between 1 3 (length ids) then Some ids else None
 
 abbrev pub path_is_in : List (List ℕ) → List ℕ → Bool
 path_is_in paths path = list_any (same_bytes path) paths

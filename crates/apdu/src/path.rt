@@ -1,6 +1,6 @@
 // A path of one to three file ids, ETSI TS 102 221 clause 8.4.
-ghost use Rattle.std.specs.Prelude.{◌≡◌, ◌↔◌, ◌≤◌, ◌<◌, length, IfSome, IsSome};
-ghost use Rattle.apdu.specs.Words.{same_bytes};
+ghost use Rattle.std.specs.Prelude.{◌≡◌, ◌≤◌, ◌<◌, length};
+ghost use Rattle.apdu.specs.Words.{path_of, same_bytes};
 
 use arrayvec::ArrayVec;
 use std::default::MadeWith;
@@ -25,8 +25,7 @@ impl Model for Path {
 impl Path {
     /// The path of these ids, unless there are none or more than three.
     pub fn from_ids(ids: &[u16]) -> Option<Path>
-        ensures some { IsSome result ↔ ((0 < length ids.now) × (length ids.now ≤ 3)) }
-        ensures value { IfSome result (λ p. p ≡ ids.now) }
+        ensures { result ≡ path_of ids.now }
     {
         if ids.is_empty() {
             return None;

@@ -1,0 +1,28 @@
+-- The limits of simulated cards and changes on which the card's step relies: what is answered fits a response.
+use Rattle.std.specs.Prelude.{◌≤◌, ℕ, List, length, All, IfSome}
+use Rattle.card_model.specs.declared.world.FileState.{FileState}
+use Rattle.card_model.specs.declared.world.Change.{Change}
+use Rattle.card_model.specs.declared.world.CardState.{CardState}
+use Rattle.card_model.specs.declared.world.World.{World}
+
+-- the control parameters that a file has of its own fit a response
+abbrev pub HasFittingParameters : FileState → Type 0
+HasFittingParameters file = IfSome file.fcp (λ bytes. length bytes ≤ 256)
+
+-- an AID has at most 16 bytes
+abbrev pub IsAid : List ℕ → Type 0
+IsAid aid = length aid ≤ 16
+
+-- a card has at most eight applications
+pub record IsFittingCard (card : CardState) : Type 0 where
+  pub files : All HasFittingParameters card.files
+  pub aids : All IsAid card.aids
+  pub applications : length card.aids ≤ 8
+
+-- a change lists at most eight files
+abbrev pub IsFittingChange : Change → Type 0
+IsFittingChange change = length change.list ≤ 8
+
+pub record IsFittingWorld (w : World) : Type 0 where
+  pub cards : All IsFittingCard w.cards
+  pub changes : All IsFittingChange w.changes

@@ -1,0 +1,13 @@
+//! The world of a simulated card as plain values, what a command does to it, and the slot that it sits in.
+#![tactic(auto)]
+
+mod lists;
+mod slot;
+mod world;
+
+pub use lists::{ArmedList, ChannelList};
+pub use slot::{ScriptedSlot, Slot, SlotFault, WorldRefusal};
+pub use world::{
+    AidList, CardState, Change, Changes, ChannelState, Fault, Faults, FileList, FileState, Images,
+    KeyList, PathList, PinState, Waiting, World, WorldEvent,
+};

@@ -1,0 +1,126 @@
+// Lists of a fixed room, which take no memory.
+ghost use Rattle.std.specs.Prelude.{◌≡◌, ◌<◌, ◌∷◌, ◌++◌, [], length, slice_get, slice_set, IsOk, OnOk, OnErr, OnSome};
+ghost use Rattle.std.specs.Option.{option_copied};
+
+use crate::ChannelState;
+use apdu::Memory;
+use arrayvec::ArrayVec;
+use std::marker::Model;
+
+/// The open channels of a card, at most twenty (ETSI TS 102 221 clause 8.7). Contracts see the list.
+#[derive(Drop)]
+pub struct ChannelList {
+    items: ArrayVec<ChannelState, 20>,
+}
+
+impl Model for ChannelList {
+    ghost use Rattle.std.specs.Prelude.{List, ◌≤◌, length};
+    ghost use Rattle.card_model.specs.declared.world.ChannelState.{ChannelState};
+
+    ghost Value = { List ChannelState };
+
+    ghost view = { λ l. l.items.items };
+}
+
+impl ChannelList {
+    pub fn new() -> ChannelList
+        ensures { result ≡ [] }
+    {
+        ChannelList {
+            items: ArrayVec::new(),
+        }
+    }
+
+    pub fn len(&self) -> usize
+        ensures { result ≡ length self.now }
+    {
+        self.items.len()
+    }
+
+    pub fn as_slice(&self) -> &[ChannelState]
+        ensures { result.now ≡ self.now }
+    {
+        self.items.as_slice()
+    }
+
+    pub fn get(&self, at: usize) -> Option<&ChannelState>
+        ensures value { option_copied result ≡ slice_get self.now at }
+        ensures within { OnSome result (at < length self.now) }
+    {
+        self.items.as_slice().get(at)
+    }
+
+    pub fn set(&mut self, at: usize, channel: ChannelState)
+        requires { at < length self.old }
+        ensures { self.new ≡ slice_set self.old at channel }
+    {
+        self.items.as_mut_slice()[at] = channel;
+    }
+
+    /// Closes every channel.
+    pub fn clear(&mut self)
+        ensures { self.new ≡ [] }
+    {
+        self.items.clear();
+    }
+
+    /// Puts a channel at the end. There is no room past twenty.
+    pub fn push(&mut self, channel: ChannelState) -> Result<(), Memory>
+        ensures ok { OnOk result (self.new ≡ self.old ++ channel ∷ []) }
+        ensures err { OnErr result (self.new ≡ self.old) }
+        ensures room { length self.old < 20 → IsOk result }
+    {
+        match self.items.try_push(channel) {
+            Ok(()) => Ok(()),
+            Err(_) => Err(Memory),
+        }
+    }
+}
+
+/// The numbers of the armed changes of a card, at most 64. Contracts see the list.
+#[derive(Drop)]
+pub struct ArmedList {
+    items: ArrayVec<u8, 64>,
+}
+
+impl Model for ArmedList {
+    ghost use Rattle.std.specs.Prelude.{List, ℕ};
+
+    ghost Value = { List ℕ };
+
+    ghost view = { λ l. l.items.items };
+}
+
+impl ArmedList {
+    pub fn new() -> ArmedList
+        ensures { result ≡ [] }
+    {
+        ArmedList {
+            items: ArrayVec::new(),
+        }
+    }
+
+    pub fn len(&self) -> usize
+        ensures { result ≡ length self.now }
+    {
+        self.items.len()
+    }
+
+    pub fn as_slice(&self) -> &[u8]
+        ensures { result.now ≡ self.now }
+    {
+        self.items.as_slice()
+    }
+
+    /// Puts a number at the end. There is no room past 64.
+    pub fn push(&mut self, change: u8) -> Result<(), Memory>
+        ensures ok { OnOk result (self.new ≡ self.old ++ change ∷ []) }
+        ensures err { OnErr result (self.new ≡ self.old) }
+        ensures room { length self.old < 64 → IsOk result }
+    {
+        match self.items.try_push(change) {
+            Ok(()) => Ok(()),
+            Err(_) => Err(Memory),
+        }
+    }
+}

@@ -1,0 +1,68 @@
+// The slot of a card, and what its calls mean where it tells its world.
+ghost use Rattle.std.specs.Prelude.{◌≡◌, ℕ, Option, None, IsTrue, IfOk, OnOk, OnErr};
+ghost use Rattle.apdu.specs.Stream.{HasCause};
+ghost use Rattle.card_model.specs.declared.world.World.{World};
+ghost use Rattle.card_model.specs.Step.{is_served};
+ghost use Rattle.card_model.specs.Slot.{Plan, Answers, MayHaveActed, Resets, MayHaveReset, Counts, ExchangesAsPlanned, ResetsAsPlanned, Happens, IsRefused};
+
+use crate::WorldEvent;
+use apdu::{Command, Response};
+
+/// An exchange or a reset failed.
+#[derive(Clone, Copy, Debug, PartialEq, Eq)]
+pub struct SlotFault;
+
+/// Why a world event was refused.
+#[derive(Clone, Copy, Debug, PartialEq, Eq)]
+pub enum WorldRefusal {
+    /// The event needs a card in the slot.
+    SlotEmpty,
+    /// The slot holds a card already.
+    SlotFull,
+    /// The card has 64 armed changes.
+    ArmFull,
+    /// There is no card of this number.
+    NoImage(u8),
+    /// There is no change of this number.
+    NoChange(u8),
+}
+
+/// A slot for one card.
+pub trait Slot {
+    /// The world of the card, where the slot tells it.
+    ghost world: { Self → Option World };
+
+    /// The calls that fail, and how many calls there were, where the slot tells it.
+    ghost plan: { Self → Option Plan } = { λ _. None };
+
+    /// How often an exchange or a reset failed, up to the last value of a u64.
+    ghost faults: { Self → ℕ };
+
+    /// Sends a command, and gives the card's response.
+    fn exchange(&mut self, command: &Command) -> Result<Response, SlotFault>
+        requires { IsTrue (is_served command.now) }
+        ensures ok { IfOk result (Answers (world self.old) (world self.new) command.now) }
+        ensures err { OnErr result (MayHaveActed (world self.old) (world self.new) command.now) }
+        ensures counts { Counts (plan self.old) (plan self.new) }
+        ensures planned { ExchangesAsPlanned (plan self.old) (world self.old) (world self.new) command.now result }
+        ensures cause { HasCause (faults self.old) (faults self.new) result };
+
+    /// Resets the card.
+    fn reset(&mut self) -> Result<(), SlotFault>
+        ensures ok { OnOk result (Resets (world self.old) (world self.new)) }
+        ensures err { OnErr result (MayHaveReset (world self.old) (world self.new)) }
+        ensures counts { Counts (plan self.old) (plan self.new) }
+        ensures planned { ResetsAsPlanned (plan self.old) (world self.old) (world self.new) result }
+        ensures cause { HasCause (faults self.old) (faults self.new) result };
+}
+
+/// A slot whose card comes, goes and changes by a script.
+pub trait ScriptedSlot: Slot {
+    /// Makes a world event happen.
+    fn world(&mut self, event: &WorldEvent) -> Result<(), WorldRefusal>
+        ensures ok { OnOk result (Happens (Self.Slot.world self.old) (Self.Slot.world self.new) event.now) }
+        ensures err { OnErr result (Self.Slot.world self.new ≡ Self.Slot.world self.old) }
+        ensures refused { IsRefused (Self.Slot.world self.old) event.now result }
+        ensures plan { Self.Slot.plan self.new ≡ Self.Slot.plan self.old }
+        ensures faults { Self.Slot.faults self.new ≡ Self.Slot.faults self.old };
+}

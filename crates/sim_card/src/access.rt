@@ -1,0 +1,101 @@
+// Access rules and keys, ETSI TS 102 221 clause 9.
+ghost use Rattle.std.specs.Prelude.{◌≡◌, ◌≤◌, length};
+ghost use Rattle.std.specs.Option.{option_copied};
+ghost use Rattle.apdu.specs.Words.{has_value};
+ghost use Rattle.card_model.specs.declared.world.PinState.{PinState};
+ghost use Rattle.card_model.specs.Card as model;
+
+use crate::file::{directory_of, file_at};
+use arrayvec::ArrayVec;
+use card_model::{CardState, FileState, PinState};
+use fcp::{ArrRef, Need, Rule, read_rule};
+
+const EF_ARR: u16 = 0x2F06;
+
+// Where the EF_ARR of a reference stands: under the master file for its id there, else beside the file.
+fn rule_file_path(path: &[u16], arr: ArrRef) -> ArrayVec<u16, 3>
+    requires { length path.now ≤ 3 }
+    ensures { result.items ≡ model.rule_file_path path.now arr }
+{
+    let mut ids = ArrayVec::new();
+    if arr.file_id == EF_ARR {
+        ids.push(EF_ARR);
+    } else {
+        let _ = ids.try_extend_from_slice(directory_of(path));
+        ids.push(arr.file_id);
+    }
+    ids
+}
+
+// The row of a number from 1.
+fn row_from_one(row: u8, file: &FileState) -> Option<&[u8]>
+    ensures { option_copied result ≡ model.row_from_one row file.now }
+{
+    if 0 < row {
+        file.rows.row(row as usize - 1)
+    } else {
+        None
+    }
+}
+
+fn rule_row<'a>(card: &'a CardState, path: &[u16], arr: ArrRef) -> Option<&'a [u8]>
+    requires { length path.now ≤ 3 }
+    ensures { option_copied result ≡ model.rule_row card.now path.now arr }
+{
+    let ids = rule_file_path(path, arr);
+    match file_at(ids.as_slice(), card) {
+        Some(file) => row_from_one(arr.row, file),
+        None => None,
+    }
+}
+
+fn rule_of_row(row: Option<&[u8]>) -> Rule
+    ensures { result ≡ model.rule_of_row (option_copied row.entry) }
+{
+    match row {
+        Some(row) => read_rule(row),
+        None => Rule {
+            read: Need::Never,
+            update: Need::Never,
+        },
+    }
+}
+
+/// The access rule of a file.
+pub fn rule_of(card: &CardState, file: &FileState) -> Rule
+    ensures { result ≡ model.rule_of card.now file.now }
+{
+    match file.arr {
+        Some(arr) => rule_of_row(rule_row(card, file.path.ids(), arr)),
+        None => Rule {
+            read: Need::Always,
+            update: Need::Always,
+        },
+    }
+}
+
+fn key_at(number: u8, card: &CardState) -> Option<&PinState>
+    ensures { option_copied result ≡ model.key_at number card.now }
+{
+    card.keys.as_slice().iter().find(|key| key.key == number)
+}
+
+fn is_verified(number: u8, card: &CardState) -> bool
+    ensures { result ≡ has_value (λ (k : PinState). k.verified) (model.key_at number card.now) }
+{
+    match key_at(number, card) {
+        Some(key) => key.verified,
+        None => false,
+    }
+}
+
+/// Whether what an access asks for is met.
+pub fn is_met(card: &CardState, need: Need) -> bool
+    ensures { result ≡ model.is_met card.now need }
+{
+    match need {
+        Need::Always => true,
+        Need::Never => false,
+        Need::Key(number) => is_verified(number, card),
+    }
+}

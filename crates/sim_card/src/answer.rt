@@ -1,0 +1,78 @@
+// Responses, and the status word of success, ETSI TS 102 221 clause 10.2.1.
+ghost use Rattle.std.specs.Prelude.{◌≡◌, ◌≤◌, length, All, IfSome};
+ghost use Rattle.std.specs.Option.{option_copied};
+ghost use Rattle.apdu.specs.Apdu.{refusal};
+ghost use Rattle.card_model.specs.Card as model;
+ghost use Rattle.card_model.specs.Step as table;
+ghost use Rattle.card_model.specs.Limits.{IsFittingChange};
+
+use apdu::{Response, Sw};
+use arrayvec::ArrayVec;
+use card_model::{CardState, Change, Changes};
+use refresh_cmd::write_proactive;
+
+/// A status word without a body.
+pub fn refused(word: u16) -> Response
+    ensures { result ≡ refusal word }
+{
+    Response {
+        body: ArrayVec::new(),
+        sw: Sw(word),
+    }
+}
+
+/// A body and a status word.
+pub fn answer(body: &[u8], word: u16) -> Response
+    requires { length body.now ≤ 256 }
+    ensures { result ≡ table.answer body.now word }
+{
+    let mut bytes = ArrayVec::new();
+    let _ = bytes.try_extend_from_slice(body);
+    Response {
+        body: bytes,
+        sw: Sw(word),
+    }
+}
+
+/// 9000, or 91XX where a change is armed and nothing is awaited.
+pub fn success_word(changes: &Changes, card: &CardState) -> u16
+    requires { All IsFittingChange changes.now }
+    ensures { result ≡ table.success_word changes.now card.now }
+{
+    announced_word(card.awaiting, first_armed(changes, card))
+}
+
+fn announced_word(awaiting: bool, change: Option<&Change>) -> u16
+    requires { IfSome change (λ c. IsFittingChange c.now) }
+    ensures { result ≡ table.announced_word awaiting (option_copied change.entry) }
+{
+    match change {
+        None => 0x9000,
+        Some(change) => {
+            if awaiting {
+                0x9000
+            } else {
+                0x9100 + change_len(change) % 256
+            }
+        }
+    }
+}
+
+// The length of the proactive command that announces a change.
+fn change_len(change: &Change) -> u16
+    requires { IsFittingChange change.now }
+    ensures { result ≡ length (model.change_command change.now) }
+{
+    write_proactive(1, change.kind, change.qualifier, change.list.as_slice()).len() as u16
+}
+
+fn first_armed<'a>(changes: &'a Changes, card: &CardState) -> Option<&'a Change>
+    requires { All IsFittingChange changes.now }
+    ensures value { option_copied result ≡ model.first_armed changes.now card.now }
+    ensures fits { IfSome result (λ c. IsFittingChange c.now) }
+{
+    match card.armed.as_slice().get(0) {
+        Some(number) => changes.get(*number as usize),
+        None => None,
+    }
+}

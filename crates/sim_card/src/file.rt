@@ -1,0 +1,118 @@
+// Files, directories and applications of a card, ETSI TS 102 221 clause 8.
+ghost use Rattle.std.specs.Prelude.{◌≡◌, ◌≤◌, ◌<◌, ◌*◌, ◌&&◌, length, All, IfSome, is_some};
+ghost use Rattle.std.specs.Option.{option_copied};
+ghost use Rattle.apdu.specs.Words.{is_one_of as is_among, same_number};
+ghost use Rattle.card_model.specs.Card as model;
+ghost use Rattle.card_model.specs.Step as table;
+ghost use Rattle.card_model.specs.Limits.{HasFittingParameters};
+
+use arrayvec::ArrayVec;
+use card_model::{CardState, FileState};
+
+/// The id that stands for the directory of the current application.
+pub const APPLICATION_ID: u16 = 0x7FFF;
+
+const USIM_AID_PREFIX: [u8; 7] = [0xA0, 0x00, 0x00, 0x00, 0x87, 0x10, 0x02];
+
+/// Whether the number is one of the list.
+pub fn is_one_of(number: usize, list: &[usize]) -> bool
+    ensures { result ≡ is_among number list.now }
+{
+    list.iter().any(|item| *item == number)
+}
+
+/// Ids of two bytes each; a byte left over is not read.
+pub fn ids_of(bytes: &[u8]) -> ArrayVec<u16, 3>
+    requires { length bytes.now ≤ 6 }
+    ensures { result.items ≡ table.ids_of bytes.now }
+{
+    let mut ids = ArrayVec::new();
+    let mut rest = bytes;
+    'ids: while let [high, low, after @ ..] = rest {
+        ids.push(*high as u16 * 256 + *low as u16);
+        rest = after;
+    }
+    ids
+}
+
+/// The file of a path.
+pub fn file_at<'a>(path: &[u16], card: &'a CardState) -> Option<&'a FileState>
+    ensures value { option_copied result ≡ model.file_at path.now card.now }
+{
+    card.files
+        .as_slice()
+        .iter()
+        .find(|file| file.path.ids() == path)
+}
+
+/// The first application whose identifier begins with these bytes.
+pub fn application_named(name: &[u8], card: &CardState) -> Option<usize>
+    ensures value { result ≡ model.application_named name.now card.now }
+    ensures within { IfSome result (λ i. i < length card.now.aids) }
+{
+    card.aids
+        .as_slice()
+        .iter()
+        .position(|aid| aid.as_slice().starts_with(name))
+}
+
+fn usim_of(card: &CardState) -> Option<usize>
+    ensures { result ≡ model.usim_of card.now }
+{
+    application_named(&USIM_AID_PREFIX, card)
+}
+
+/// Whether an application is the USIM.
+pub fn is_usim(app: Option<u8>, card: &CardState) -> bool
+    ensures { result ≡ (is_some app && same_number app (model.usim_of card.now)) }
+{
+    match app {
+        None => false,
+        Some(app) => match usim_of(card) {
+            None => false,
+            Some(usim) => app as usize == usim,
+        },
+    }
+}
+
+/// The path without its last id.
+pub fn directory_of(path: &[u16]) -> &[u16]
+    ensures { result.now ≡ model.directory_of path.now }
+{
+    let len = path.len().saturating_sub(1);
+    &path[..len]
+}
+
+/// The last id of a path; that of the master file where there is none.
+pub fn last_id(path: &[u16]) -> u16
+    ensures { result ≡ model.last_id path.now }
+{
+    match path.get(path.len().saturating_sub(1)) {
+        Some(id) => *id,
+        None => 0x3F00,
+    }
+}
+
+/// Whether a path stands below the application's directory, or is that directory.
+pub fn is_in_application(path: &[u16]) -> bool
+    ensures { result ≡ model.is_in_application path.now }
+{
+    path.starts_with(&[APPLICATION_ID])
+}
+
+fn is_below(directory: &[u16], file: &FileState) -> bool
+    ensures { result ≡ model.is_below directory.now file.now }
+{
+    let path = file.path.ids();
+    path.starts_with(directory) && directory.len() < path.len()
+}
+
+/// Whether some file stands below this path.
+pub fn is_directory_path(path: &[u16], card: &CardState) -> bool
+    ensures { result ≡ model.is_directory_path path.now card.now }
+{
+    card.files
+        .as_slice()
+        .iter()
+        .any(|file| is_below(path, file))
+}

@@ -1,0 +1,17 @@
+//! A simulated card in its slot: what a command does to it is the table of `card_model`, call by call.
+#![tactic(auto)]
+
+mod access;
+mod answer;
+mod card;
+mod channel;
+mod control;
+mod event;
+mod file;
+mod profile;
+mod read;
+mod select;
+mod slot;
+mod step;
+
+pub use slot::SimSlot;

@@ -1,0 +1,88 @@
+// A command in the world, and the reset of the card in the slot.
+ghost use Rattle.std.specs.Prelude.{◌≡◌, ◌<◌, length, slice_get, is_some, map};
+ghost use Rattle.card_model.specs.Step as table;
+ghost use Rattle.card_model.specs.Limits.{IsFittingCard, IsFittingWorld};
+
+use crate::answer::refused;
+use crate::card::on_card;
+use crate::channel::fresh_channel;
+use apdu::{Command, Response};
+use card_model::{CardState, KeyList, World};
+
+/// Whether the slot holds a card.
+pub fn holds_card(world: &World) -> bool
+    ensures { result ≡ is_some (table.card_inside world.now) }
+{
+    match world.inside {
+        Some(place) => world.cards.get(place as usize).is_some(),
+        None => false,
+    }
+}
+
+fn step_of_card(world: &mut World, place: u8, command: &Command) -> Response
+    requires { IsFittingWorld world.old }
+    ensures fits { IsFittingWorld world.new }
+    ensures value { (world.new, result) ≡ table.step_of_card world.old place (slice_get world.old.cards place) command.now }
+{
+    if place as usize >= world.cards.len() {
+        return refused(0);
+    }
+    on_card(&world.changes, world.cards.at_mut(place as usize), command)
+}
+
+/// The command's step; on an empty slot the world stays, and the response says nothing.
+#[tactic(auto, unfolding(card_model::specs::Step::step))]
+pub fn step(world: &mut World, command: &Command) -> Response
+    requires { IsFittingWorld world.old }
+    ensures fits { IsFittingWorld world.new }
+    ensures value { (world.new, result) ≡ table.step world.old command.now }
+{
+    match world.inside {
+        Some(place) => step_of_card(world, place, command),
+        None => refused(0),
+    }
+}
+
+fn forget_keys(keys: &mut KeyList)
+    ensures { keys.new ≡ map table.unverified keys.old }
+{
+    'keys: for at in 0..keys.len() {
+        keys.at_mut(at).verified = false;
+    }
+}
+
+fn reset_card(card: &mut CardState)
+    requires { IsFittingCard card.old }
+    ensures fits { IsFittingCard card.new }
+    ensures value { card.new ≡ table.reset_card card.old }
+{
+    card.channels.clear();
+    let _ = card.channels.push(fresh_channel(0));
+    forget_keys(&mut card.keys);
+    card.awaiting = false;
+    card.waiting = None;
+}
+
+/// Puts the card at a place in, and resets it, where there is one.
+pub fn insert(world: &mut World, place: u8)
+    requires { IsFittingWorld world.old }
+    ensures fits { IsFittingWorld world.new }
+    ensures value { world.new ≡ table.inserted world.old place (slice_get world.old.cards place) }
+{
+    if (place as usize) < world.cards.len() {
+        reset_card(world.cards.at_mut(place as usize));
+        world.inside = Some(place);
+    }
+}
+
+/// Resets the card in the slot.
+#[tactic(auto, unfolding(card_model::specs::Step::after_reset))]
+pub fn reset(world: &mut World)
+    requires { IsFittingWorld world.old }
+    ensures fits { IsFittingWorld world.new }
+    ensures value { world.new ≡ table.after_reset world.old }
+{
+    if let Some(place) = world.inside {
+        insert(world, place);
+    }
+}
