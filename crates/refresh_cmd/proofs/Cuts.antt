@@ -1,8 +1,8 @@
 -- Steps of the reading of a file list.
-use Rattle.std.proofs.Common.{◌≡◌, ◌≢◌, ℕ, ◌<◌, ◌≤◌, Bool, true, false, ◌&&◌, ◌==◌, nat_le, List, [], ◌∷◌, ◌++◌, length, Option, Some, None, refl, ap, sym, arith, append_assoc, append-nil, length-append}
+use Rattle.std.proofs.Common.{◌∙◌, ◌≡◌, ◌≢◌, ℕ, ◌<◌, ◌≤◌, Bool, true, false, ◌&&◌, ◌==◌, nat_le, List, [], ◌∷◌, ◌++◌, length, Option, Some, None, refl, ap, sym, arith, append_assoc, append-nil, length-append}
 use Rattle.std.specs.List.{list_all}
 use Rattle.std.proofs.lemmas.Bool.Decides.{nat_tests}
-use Rattle.apdu.specs.Words.{is_empty}
+use Rattle.apdu.specs.Words.{path_of, is_between, is_empty}
 use Rattle.refresh_cmd.specs.Proactive.{master_file, is_good_path, good_paths}
 use Rattle.refresh_cmd.specs.Lists.{cut_bytes, with_id_seen, onto, within}
 
@@ -95,5 +95,9 @@ onto-end paths [] h good k = onto-done paths good k
 onto-end paths (b ∷ rest) h good k = absurd (omega arith)
 
 -- at most three ids that make no path are none
-pub no_ids : (n : ℕ) → n ≤ 3 → ((0 < n) × (n ≤ 3) → false ≡ true) → n < 1
-no_ids n h k = grind arith
+pub no_ids : (ids : List ℕ) → length ids ≤ 3 → None ≡ path_of ids → length ids < 1
+no_ids [] few e = omega arith
+no_ids (id ∷ ids) few e =
+    let good : is_between 1 3 (length (id ∷ ids)) ≡ true = grind (arith, nat_tests) in
+    let some : None ≡ Some (id ∷ ids) = e ∙ rw good refl in
+    cc

@@ -17,10 +17,11 @@ refresh_type = 0x01
 
 -- ---- writing
 
--- full paths, each of which begins with the MF
+-- a full path, which begins with the MF
 abbrev pub path_bytes : List ℕ → List ℕ
 path_bytes path = flat_map two_bytes (master_file ∷ path)
 
+-- a count and the full paths, or nothing
 abbrev pub list_part : List (List ℕ) → List ℕ
 list_part [] = []
 list_part (path ∷ paths) = part_bytes 0x92 (length (path ∷ paths) ∷ flat_map path_bytes (path ∷ paths))
@@ -34,6 +35,7 @@ with_details number kind qualifier list =
 abbrev pub proactive_bytes : ℕ → ℕ → ℕ → List (List ℕ) → List ℕ
 proactive_bytes number kind qualifier paths = with_details number kind qualifier (list_part paths)
 
+-- the command with these details and this file list
 abbrev pub command_of : ℕ → ℕ → ℕ → List (List ℕ) → ProactiveValue
 command_of number kind qualifier paths = record { number = number; kind = kind; qualifier = qualifier; list = paths }
 
@@ -74,9 +76,11 @@ is_good_path path = is_between 1 3 (length path)
 abbrev pub good_paths : List ℕ × List (List ℕ) → Option (List (List ℕ))
 good_paths (before, paths) = if is_empty before && list_all is_good_path paths && nat_le (length paths) 64 then Some paths else None
 
+-- the bytes as full paths
 abbrev pub full_paths : List ℕ → Option (List (List ℕ))
 full_paths bytes = elim (ids_of bytes) [ None ↦ None | Some ids ↦ good_paths (split_paths ids) ]
 
+-- the paths, where there are as many as the count says
 abbrev pub if_counted : ℕ → Option (List (List ℕ)) → Option (List (List ℕ))
 if_counted count None = None
 if_counted count (Some paths) = if length paths == count then Some paths else None
@@ -91,11 +95,12 @@ abbrev pub listed_paths : Option (List ℕ) → Option (List (List ℕ))
 listed_paths None = Some []
 listed_paths (Some bytes) = paths_of bytes
 
+-- the command, where its file list can be read
 abbrev pub with_list : ℕ → ℕ → ℕ → Option (List (List ℕ)) → Result ProactiveValue ProactiveError
 with_list number kind qualifier None = Err BadList
 with_list number kind qualifier (Some paths) = Ok (command_of number kind qualifier paths)
 
--- the details have three bytes, and the identities two, whichever they are
+-- the details have three bytes, and the identities two, which may be any; an object of another length counts as missing
 abbrev pub proactive_from : Option (List ℕ) → Option (List ℕ) → Option (List (List ℕ)) → Result ProactiveValue ProactiveError
 proactive_from (Some (number ∷ kind ∷ qualifier ∷ [])) (Some (source ∷ destination ∷ [])) paths = with_list number kind qualifier paths
 proactive_from (Some (number ∷ kind ∷ qualifier ∷ [])) _ paths = Err (Missing 0x02)

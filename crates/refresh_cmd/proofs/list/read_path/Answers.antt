@@ -1,4 +1,4 @@
-use Rattle.std.proofs.Common.{◌∙◌, ap, sym, arith, List, ℕ, length}
+use Rattle.std.proofs.Common.{◌∙◌, ap, sym, arith, List, ℕ}
 use Rattle.refresh_cmd.specs.Lists.{cut_bytes, within}
 use Rattle.refresh_cmd.proofs.Cuts.{within-more, within-long, within-master, within-last, onto-empty, when_full, no_ids}
 use Rattle.refresh_cmd.proofs.list.read_path.Goals as goal
@@ -26,4 +26,4 @@ returns-in_err-from_ids-clause-none c = rw c.from_residual-in_err-from_ids.ensur
     ∙ (elim c.match-split_id.branch [
       | in-Some+then-id-eq-MASTER_FILE w ↦ within-master w.in-Some.id c.ids.rest.now (cut_bytes w.in-Some.behind.now) w.in-Some.ensures.some w.if-id-eq-MASTER_FILE.true paths c.ids.ids.items
       | in_default w ↦ within-last paths c.ids.ids.items c.ids.rest.now w.in_default.ensures.none
-    ] ∙ onto-empty paths c.ids.ids.items (cut_bytes c.ids.rest.now) (rw (← c.as_slice.ensures.value) (no_ids (length c.as_slice.result.now) c.as_slice.ensures.fits c.in_err-from_ids.ensures.some.1))))
+    ] ∙ onto-empty paths c.ids.ids.items (cut_bytes c.ids.rest.now) (rw (← c.as_slice.ensures.value) (no_ids c.as_slice.result.now c.as_slice.ensures.fits c.in_err-from_ids.ensures))))
