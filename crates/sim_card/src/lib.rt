@@ -2,14 +2,15 @@
 #![tactic(auto)]
 
 mod access;
-mod answer;
 mod card;
 mod channel;
+mod command;
 mod control;
 mod event;
 mod file;
 mod profile;
 mod read;
+mod response;
 mod select;
 mod slot;
 mod step;
