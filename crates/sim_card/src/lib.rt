@@ -16,3 +16,6 @@ mod slot;
 mod step;
 
 pub use slot::SimSlot;
+
+#[cfg(test)]
+mod tests;
