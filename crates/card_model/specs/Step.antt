@@ -5,6 +5,7 @@ use Rattle.apdu.specs.Values.{CommandValue, ResponseValue}
 use Rattle.apdu.specs.Words.{same_bytes, is_empty, is_one_of, is_between, pair_value, path_of}
 use Rattle.apdu.specs.Apdu.{select_ins, read_binary_ins, terminal_profile_ins, channel_of, is_toolkit, refusal}
 use Rattle.apdu.specs.declared.class.ClassKind.{ClassKind}
+use Rattle.apdu.specs.declared.class.ClassKind.TheVariants.{Plain, Toolkit}
 use Rattle.fcp.specs.Content.{is_transparent, first_row}
 use Rattle.refresh_cmd.specs.Proactive.{master_file}
 use Rattle.card_model.specs.Waiting.{WaitingValue}
@@ -167,12 +168,12 @@ terminal_profile_row changes card c =
 
 -- ---- the table
 
--- whether the instruction is one of the toolkit; none where it is not in the table
-abbrev pub row_of : ℕ → Option Bool
-row_of ins =
-    if ins == select_ins then Some false
-    else if ins == read_binary_ins then Some false
-    else if ins == terminal_profile_ins then Some true
+-- the kind of class that the instruction goes with; none where it is not in the table
+abbrev pub row_kind : ℕ → Option ClassKind
+row_kind ins =
+    if ins == select_ins then Some Plain
+    else if ins == read_binary_ins then Some Plain
+    else if ins == terminal_profile_ins then Some Toolkit
     else None
 
 abbrev pub on_row : List Change → CardState → ℕ → ChannelState → CommandValue → CardState × ResponseValue
@@ -181,19 +182,19 @@ on_row changes card place channel c =
     else if c.ins == read_binary_ins then read_binary_row changes card channel c
     else terminal_profile_row changes card c
 
-abbrev pub same_kind : Bool → ClassKind → Bool
-same_kind true kind = is_toolkit kind
-same_kind false kind = not (is_toolkit kind)
+abbrev pub same_kind : ClassKind → ClassKind → Bool
+same_kind Plain kind = not (is_toolkit kind)
+same_kind Toolkit kind = is_toolkit kind
 
 -- what was waiting for GET RESPONSE is dropped by every other command, and a refusal of the row changes nothing else
-abbrev pub on_kind : List Change → CardState → ℕ → ChannelState → ClassKind → CommandValue → Option Bool → CardState × ResponseValue
+abbrev pub on_kind : List Change → CardState → ℕ → ChannelState → ClassKind → CommandValue → Option ClassKind → CardState × ResponseValue
 on_kind changes card place channel kind c None = refuses card 0x6D00
-on_kind changes card place channel kind c (Some toolkit) =
-    if same_kind toolkit kind then on_row changes (with_waiting card None) place channel c else refuses card 0x6E00
+on_kind changes card place channel kind c (Some of_row) =
+    if same_kind of_row kind then on_row changes (with_waiting card None) place channel c else refuses card 0x6E00
 
 abbrev pub on_channel : List Change → CardState → ℕ → ClassKind → Option ChannelState → CommandValue → CardState × ResponseValue
 on_channel changes card place kind None c = refuses card 0x6881
-on_channel changes card place kind (Some channel) c = on_kind changes card place channel kind c (row_of c.ins)
+on_channel changes card place kind (Some channel) c = on_kind changes card place channel kind c (row_kind c.ins)
 
 abbrev pub on_place : List Change → CardState → ClassKind → Option ℕ → CommandValue → CardState × ResponseValue
 on_place changes card kind None c = refuses card 0x6881

@@ -1,13 +1,13 @@
 // A command on a card: its class and channel, and the row of its instruction, ETSI TS 102 221 clause 10.1.
-ghost use Rattle.std.specs.Prelude.{◌≡◌, ◌≤◌, ◌<◌, length, slice_get, All, IsTrue};
-ghost use Rattle.std.specs.Option.{option_copied};
+ghost use Rattle.std.specs.Prelude.{◌≡◌, ◌<◌, length, slice_get, All};
+ghost use Rattle.apdu.specs.Apdu.{is_toolkit as is_toolkit_class};
 ghost use Rattle.card_model.specs.Step as table;
 ghost use Rattle.card_model.specs.Limits.{IsFittingChange, IsFittingCard};
 
-use crate::answer::refused;
 use crate::channel::{channel_place, copy_of};
 use crate::profile::terminal_profile_row;
 use crate::read::read_binary_row;
+use crate::response::refused;
 use crate::select::select_row;
 use apdu::{ClassKind, Command, Response, channel_of};
 use card_model::{CardState, Changes, ChannelState};
@@ -18,27 +18,33 @@ const READ_BINARY: u8 = 0xB0;
 
 const TERMINAL_PROFILE: u8 = 0x10;
 
-// Whether the instruction is one of the toolkit; none where the table does not have it.
-fn row_of(ins: u8) -> Option<bool>
-    ensures { result ≡ table.row_of ins }
+// The kind of class that the instruction goes with; none where it is not in the table.
+fn row_kind(ins: u8) -> Option<ClassKind>
+    ensures { result ≡ table.row_kind ins }
 {
-    if ins == SELECT {
-        Some(false)
-    } else if ins == READ_BINARY {
-        Some(false)
-    } else if ins == TERMINAL_PROFILE {
-        Some(true)
-    } else {
-        None
+    match ins {
+        SELECT => Some(ClassKind::Plain),
+        READ_BINARY => Some(ClassKind::Plain),
+        TERMINAL_PROFILE => Some(ClassKind::Toolkit),
+        _ => None,
     }
 }
 
-fn same_kind(toolkit: bool, kind: ClassKind) -> bool
-    ensures { result ≡ table.same_kind toolkit kind }
+fn is_toolkit(kind: ClassKind) -> bool
+    ensures { result ≡ is_toolkit_class kind }
 {
     match kind {
-        ClassKind::Plain => !toolkit,
-        ClassKind::Toolkit => toolkit,
+        ClassKind::Plain => false,
+        ClassKind::Toolkit => true,
+    }
+}
+
+fn same_kind(of_row: ClassKind, kind: ClassKind) -> bool
+    ensures { result ≡ table.same_kind of_row kind }
+{
+    match of_row {
+        ClassKind::Plain => !is_toolkit(kind),
+        ClassKind::Toolkit => is_toolkit(kind),
     }
 }
 
@@ -77,12 +83,12 @@ fn on_kind(
     requires card { IsFittingCard card.old }
     requires place { place < length card.old.channels }
     ensures fits { IsFittingCard card.new }
-    ensures value { (card.new, result) ≡ table.on_kind changes.now card.old place channel.now kind command.now (table.row_of command.now.ins) }
+    ensures value { (card.new, result) ≡ table.on_kind changes.now card.old place channel.now kind command.now (table.row_kind command.now.ins) }
 {
-    let Some(toolkit) = row_of(command.ins) else {
+    let Some(of_row) = row_kind(command.ins) else {
         return refused(0x6D00);
     };
-    if !same_kind(toolkit, kind) {
+    if !same_kind(of_row, kind) {
         return refused(0x6E00);
     }
     card.waiting = None;

@@ -1,7 +1,5 @@
 // The control parameters that SELECT gives, ETSI TS 102 221 clause 11.1.1.3.
-ghost use Rattle.std.specs.Prelude.{◌≡◌, ◌≤◌, length, All, IfSome};
-ghost use Rattle.std.specs.Option.{option_copied};
-ghost use Rattle.arrayvec.specs.ArrayVec.{array_vec_len};
+ghost use Rattle.std.specs.Prelude.{◌≡◌, ◌≤◌, length};
 ghost use Rattle.card_model.specs.Card as model;
 ghost use Rattle.card_model.specs.Limits.{HasFittingParameters, IsFittingCard};
 
@@ -45,12 +43,12 @@ fn file_parameters(file: &FileState) -> ArrayVec<u8, 256>
     ensures { result.items ≡ model.file_parameters file.now }
 {
     match &file.fcp {
-        Some(bytes) => held(bytes.as_slice()),
-        None => held(write_fcp(&fields_of_file(file), &[]).as_slice()),
+        Some(bytes) => owned(bytes.as_slice()),
+        None => owned(write_fcp(&fields_of_file(file), &[]).as_slice()),
     }
 }
 
-fn held(bytes: &[u8]) -> ArrayVec<u8, 256>
+fn owned(bytes: &[u8]) -> ArrayVec<u8, 256>
     requires { length bytes.now ≤ 256 }
     ensures { result.items ≡ bytes.now }
 {
@@ -94,9 +92,9 @@ fn directory_parameters(card: &CardState, channel: &ChannelState) -> ArrayVec<u8
 {
     let path = current_path(channel);
     if path == [APPLICATION_ID].as_slice() {
-        held(write_fcp(&fields_of_directory(None), aid_of(card, channel)).as_slice())
+        owned(write_fcp(&fields_of_directory(None), aid_of(card, channel)).as_slice())
     } else {
-        held(write_fcp(&fields_of_directory(Some(last_id(path))), &[]).as_slice())
+        owned(write_fcp(&fields_of_directory(Some(last_id(path))), &[]).as_slice())
     }
 }
 

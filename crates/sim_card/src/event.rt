@@ -1,5 +1,5 @@
 // World events: a change is armed, and cards go out and in.
-ghost use Rattle.std.specs.Prelude.{◌≡◌, ◌<◌, length, slice_get, true, Some, OnOk, OnErr};
+ghost use Rattle.std.specs.Prelude.{◌≡◌, true, Some, OnOk, OnErr};
 ghost use Rattle.card_model.specs.Step as table;
 ghost use Rattle.card_model.specs.Slot as slots;
 ghost use Rattle.card_model.specs.Limits.{IsFittingCard, IsFittingWorld};
@@ -43,7 +43,7 @@ fn arm(world: &mut World, change: u8) -> Result<(), WorldRefusal>
 
 /// Makes a world event happen.
 #[tactic(auto, unfolding(card_model::specs::Step::after_event))]
-pub fn happen(world: &mut World, event: &WorldEvent) -> Result<(), WorldRefusal>
+pub fn apply_event(world: &mut World, event: &WorldEvent) -> Result<(), WorldRefusal>
     requires { IsFittingWorld world.old }
     ensures fits { IsFittingWorld world.new }
     ensures refused { slots.IsResultOf (slots.refusal_of world.old event.now) result }

@@ -1,39 +1,15 @@
 // Files, directories and applications of a card, ETSI TS 102 221 clause 8.
-ghost use Rattle.std.specs.Prelude.{◌≡◌, ◌≤◌, ◌<◌, ◌*◌, ◌&&◌, length, All, IfSome, is_some};
+ghost use Rattle.std.specs.Prelude.{◌≡◌, ◌<◌, ◌&&◌, length, IfSome, is_some};
 ghost use Rattle.std.specs.Option.{option_copied};
-ghost use Rattle.apdu.specs.Words.{is_one_of as is_among, same_number};
+ghost use Rattle.apdu.specs.Words.{same_number};
 ghost use Rattle.card_model.specs.Card as model;
-ghost use Rattle.card_model.specs.Step as table;
-ghost use Rattle.card_model.specs.Limits.{HasFittingParameters};
 
-use arrayvec::ArrayVec;
 use card_model::{CardState, FileState};
 
 /// The id that stands for the directory of the current application.
 pub const APPLICATION_ID: u16 = 0x7FFF;
 
 const USIM_AID_PREFIX: [u8; 7] = [0xA0, 0x00, 0x00, 0x00, 0x87, 0x10, 0x02];
-
-/// Whether the number is one of the list.
-pub fn is_one_of(number: usize, list: &[usize]) -> bool
-    ensures { result ≡ is_among number list.now }
-{
-    list.iter().any(|item| *item == number)
-}
-
-/// Ids of two bytes each; a byte left over is not read.
-pub fn ids_of(bytes: &[u8]) -> ArrayVec<u16, 3>
-    requires { length bytes.now ≤ 6 }
-    ensures { result.items ≡ table.ids_of bytes.now }
-{
-    let mut ids = ArrayVec::new();
-    let mut rest = bytes;
-    'ids: while let [high, low, after @ ..] = rest {
-        ids.push(*high as u16 * 256 + *low as u16);
-        rest = after;
-    }
-    ids
-}
 
 /// The file of a path.
 pub fn file_at<'a>(path: &[u16], card: &'a CardState) -> Option<&'a FileState>

@@ -2,16 +2,20 @@
 #![tactic(auto)]
 
 mod access;
-mod answer;
 mod card;
 mod channel;
+mod command;
 mod control;
 mod event;
 mod file;
 mod profile;
 mod read;
+mod response;
 mod select;
 mod slot;
 mod step;
 
 pub use slot::SimSlot;
+
+#[cfg(test)]
+mod tests;

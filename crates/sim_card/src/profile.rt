@@ -3,8 +3,8 @@ ghost use Rattle.std.specs.Prelude.{◌≡◌, All};
 ghost use Rattle.card_model.specs.Step as table;
 ghost use Rattle.card_model.specs.Limits.{IsFittingChange};
 
-use crate::answer::{answer, refused, success_word};
-use crate::read::parameters;
+use crate::command::parameters;
+use crate::response::{answer, refused, success_word};
 use apdu::{Command, Response};
 use card_model::{CardState, Changes};
 

@@ -1,24 +1,17 @@
 // READ BINARY, ETSI TS 102 221 clause 11.1.3.
-ghost use Rattle.std.specs.Prelude.{◌≡◌, ◌≤◌, length, All};
+ghost use Rattle.std.specs.Prelude.{◌≡◌, ◌≤◌, All};
 ghost use Rattle.std.specs.Option.{option_copied};
 ghost use Rattle.fcp.specs.Content.{first_row as row_of_bytes};
-ghost use Rattle.apdu.specs.Values.{HasLe};
 ghost use Rattle.card_model.specs.Step as table;
 ghost use Rattle.card_model.specs.Limits.{IsFittingChange};
 
 use crate::access::{is_met, rule_of};
-use crate::answer::{answer, refused, success_word};
 use crate::channel::current_file;
+use crate::command::parameters;
+use crate::response::{answer, refused, success_word};
 use apdu::{Command, Response};
 use card_model::{CardState, Changes, ChannelState, FileState};
 use fcp::FileKind;
-
-/// P1 and P2 as one number.
-pub fn parameters(command: &Command) -> usize
-    ensures { result ≡ table.parameters command.now }
-{
-    command.p1 as usize * 256 + command.p2 as usize
-}
 
 // The bytes of a transparent file.
 fn first_row(file: &FileState) -> &[u8]

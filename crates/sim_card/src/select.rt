@@ -1,14 +1,13 @@
 // SELECT, ETSI TS 102 221 clause 11.1.1.
 ghost use Rattle.std.specs.Prelude.{◌≡◌, ◌≢◌, ◌≤◌, ◌<◌, length, All, IsTrue};
-ghost use Rattle.std.specs.Option.{option_copied};
-ghost use Rattle.arrayvec.specs.ArrayVec.{array_vec_len};
 ghost use Rattle.card_model.specs.Step as table;
 ghost use Rattle.card_model.specs.Limits.{IsFittingChange, IsFittingCard};
 
-use crate::answer::{answer, refused, success_word};
-use crate::channel::{copy_of, current_directory, is_selectable};
+use crate::channel::{current_directory, is_selectable};
+use crate::command::{ids_of, is_one_of};
 use crate::control::current_parameters;
-use crate::file::{APPLICATION_ID, application_named, ids_of, is_one_of};
+use crate::file::{APPLICATION_ID, application_named};
+use crate::response::{answer, refused, success_word};
 use apdu::{Command, Path, Response};
 use arrayvec::ArrayVec;
 use card_model::{CardState, Changes, ChannelState, Waiting};

@@ -1,12 +1,12 @@
 // The slot of a simulated card.
-ghost use Rattle.std.specs.Prelude.{◌≡◌, ◌⊎◌, Some, None, All, IsTrue, IsOk, IfOk, OnOk, OnErr, is_some};
+ghost use Rattle.std.specs.Prelude.{◌≡◌, Some, All, IsTrue, IsOk, IfOk, OnOk, OnErr};
 ghost use Rattle.std.specs.Option.{option_copied};
 ghost use Rattle.apdu.specs.Stream.{HasCause};
 ghost use Rattle.card_model.specs.Step as table;
 ghost use Rattle.card_model.specs.Slot as slots;
 ghost use Rattle.card_model.specs.Limits.{IsFittingCard, IsFittingChange, IsFittingWorld};
 
-use crate::event::happen;
+use crate::event::apply_event;
 use crate::step::{holds_card, reset, step};
 use apdu::{Command, Memory, Response};
 use card_model::{
@@ -169,6 +169,6 @@ impl Slot for SimSlot {
 
 impl ScriptedSlot for SimSlot {
     fn world(&mut self, event: &WorldEvent) -> Result<(), WorldRefusal> {
-        happen(&mut self.state, event)
+        apply_event(&mut self.state, event)
     }
 }

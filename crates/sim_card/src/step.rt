@@ -1,11 +1,11 @@
 // A command in the world, and the reset of the card in the slot.
-ghost use Rattle.std.specs.Prelude.{◌≡◌, ◌<◌, length, slice_get, is_some, map};
+ghost use Rattle.std.specs.Prelude.{◌≡◌, slice_get, is_some, map};
 ghost use Rattle.card_model.specs.Step as table;
 ghost use Rattle.card_model.specs.Limits.{IsFittingCard, IsFittingWorld};
 
-use crate::answer::refused;
 use crate::card::on_card;
 use crate::channel::fresh_channel;
+use crate::response::refused;
 use apdu::{Command, Response};
 use card_model::{CardState, KeyList, World};
 

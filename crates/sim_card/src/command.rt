@@ -1,0 +1,35 @@
+// Parts of a command.
+ghost use Rattle.std.specs.Prelude.{◌≡◌, ◌≤◌, length};
+ghost use Rattle.apdu.specs.Words.{is_one_of as is_among};
+ghost use Rattle.card_model.specs.Step as table;
+
+use apdu::Command;
+use arrayvec::ArrayVec;
+
+/// P1 and P2 as one number.
+pub fn parameters(command: &Command) -> usize
+    ensures { result ≡ table.parameters command.now }
+{
+    command.p1 as usize * 256 + command.p2 as usize
+}
+
+/// Whether the number is one of the list.
+pub fn is_one_of(number: usize, list: &[usize]) -> bool
+    ensures { result ≡ is_among number list.now }
+{
+    list.iter().any(|item| *item == number)
+}
+
+/// Ids of two bytes each; a byte left over is not read.
+pub fn ids_of(bytes: &[u8]) -> ArrayVec<u16, 3>
+    requires { length bytes.now ≤ 6 }
+    ensures { result.items ≡ table.ids_of bytes.now }
+{
+    let mut ids = ArrayVec::new();
+    let mut rest = bytes;
+    'ids: while let [high, low, after @ ..] = rest {
+        ids.push(*high as u16 * 256 + *low as u16);
+        rest = after;
+    }
+    ids
+}

@@ -1,0 +1,388 @@
+// Exchanges with a card of a few files, byte for byte.
+ghost use Rattle.std.specs.Prelude.{◌≡◌, ◌<◌, ◌^◌, ◌∷◌, [], length, All, IsTrue, IfOk};
+ghost use Rattle.apdu.specs.Values.{HasLe};
+ghost use Rattle.apdu.specs.Apdu.{select_ins, read_binary_ins, terminal_profile_ins};
+ghost use Rattle.card_model.specs.Step.{is_served};
+ghost use Rattle.card_model.specs.Limits.{HasFittingParameters, IsFittingCard, IsFittingChange};
+
+use crate::SimSlot;
+use apdu::{Bytes, Command, Path, Sequence};
+use arrayvec::ArrayVec;
+use card_model::{
+    ArmedList, CardState, Change, ChannelList, Fault, FileState, PinState, ScriptedSlot, Slot,
+    WorldEvent, WorldRefusal,
+};
+use fcp::{ArrRef, Rows};
+use std::alloc::Global;
+use std::process::Abort;
+use std::test::Fail;
+
+const ICCID: [u8; 10] = [0x98, 0x10, 0x14, 0x30, 0x12, 0x11, 0x81, 0x15, 0x70, 0x02];
+
+// PIN 01 is wanted for reading, and nothing but never for updating.
+const READ_BY_PIN: [u8; 11] = [
+    0x80, 0x01, 0x01, 0xA4, 0x06, 0x83, 0x01, 0x01, 0x95, 0x01, 0x08,
+];
+
+const USIM: [u8; 12] = [
+    0xA0, 0x00, 0x00, 0x00, 0x87, 0x10, 0x02, 0xFF, 0x49, 0xFF, 0xFF, 0x89,
+];
+
+fn file(alloc: Global, ids: &[u16], bytes: &[u8]) -> Result<FileState, Fail>
+    requires { length bytes.now < 2 ^ 16 }
+    ensures { IfOk result HasFittingParameters }
+{
+    Ok(FileState {
+        path: Path::from_ids(ids).ok_or("a path")?,
+        rows: Rows::transparent(alloc, bytes)?,
+        active: true,
+        arr: None,
+        endless: false,
+        fcp: None,
+    })
+}
+
+fn card(alloc: Global) -> Result<CardState, Fail>
+    ensures { IfOk result IsFittingCard }
+{
+    let mut files = Sequence::new(alloc);
+    files.push(file(alloc, &[0x2FE2], &ICCID)?)?;
+    let mut keys = Sequence::new(alloc);
+    keys.push(PinState {
+        key: 0x01,
+        secret: [0x31, 0x32, 0x33, 0x34, 0xFF, 0xFF, 0xFF, 0xFF],
+        tries: 3,
+        max: 3,
+        verified: true,
+    })?;
+    let mut aids = Sequence::new(alloc);
+    aids.push(Bytes::from_slice(alloc, &USIM)?)?;
+    Ok(CardState {
+        files,
+        aids,
+        keys,
+        channels: ChannelList::new(),
+        free: 3,
+        armed: ArmedList::new(),
+        awaiting: false,
+        waiting: None,
+        get_response: false,
+    })
+}
+
+fn add(card: &mut CardState, file: FileState) -> Result<(), Fail>
+    requires card { IsFittingCard card.old }
+    requires file { HasFittingParameters file }
+    ensures { IsFittingCard card.new }
+{
+    card.files.push(file)?;
+    Ok(())
+}
+
+// REFRESH, file change notification, of EF_SPN of the application.
+fn change(alloc: Global) -> Result<Change, Fail>
+    ensures { IfOk result IsFittingChange }
+{
+    let mut list = Sequence::new(alloc);
+    list.push(Path::from_ids(&[0x7FFF, 0x6F46]).ok_or("a path")?)?;
+    Ok(Change {
+        qualifier: 1,
+        kind: 1,
+        list,
+        files: Sequence::new(alloc),
+    })
+}
+
+fn slot_of(alloc: Global, card: CardState, faults: &[Fault]) -> Result<SimSlot, Fail>
+    requires { IsFittingCard card }
+{
+    let mut images = Sequence::new(alloc);
+    images.push(card)?;
+    let mut changes = Sequence::new(alloc);
+    changes.push(change(alloc)?)?;
+    let faults = Sequence::from_vec(faults.to_vec(alloc)?);
+    Ok(SimSlot::new(alloc, images, changes, faults)?)
+}
+
+fn command(class: u8, ins: u8, p1: u8, p2: u8, body: &[u8], le: Option<u16>) -> Command
+    requires { HasLe le }
+    ensures { result.ins ≡ ins }
+{
+    let mut bytes = ArrayVec::new();
+    let _ = bytes.try_extend_from_slice(body);
+    Command {
+        class,
+        ins,
+        p1,
+        p2,
+        body: bytes,
+        le,
+    }
+}
+
+fn select(p1: u8, p2: u8, body: &[u8]) -> Command
+    ensures { IsTrue (is_served result) }
+{
+    command(0x00, 0xA4, p1, p2, body, None)
+}
+
+fn read(at: u8, le: u8) -> Command
+    ensures { IsTrue (is_served result) }
+{
+    command(
+        0x00,
+        0xB0,
+        0x00,
+        at,
+        &[],
+        Some(if le == 0 { 256 } else { le as u16 }),
+    )
+}
+
+fn profile() -> Command
+    ensures { IsTrue (is_served result) }
+{
+    command(0x80, 0x10, 0x00, 0x00, &[0x01, 0x00, 0x80], None)
+}
+
+fn answers(rt: &impl Abort, slot: &mut SimSlot, command: &Command, expected: &[u8])
+    requires { IsTrue (is_served command.now) }
+{
+    let response = slot.exchange(command).expect(rt, "a response");
+    assert_eq!(rt; response.write().as_slice(), expected);
+}
+
+const PARAMETERS: [u8; 17] = [
+    0x62, 0x0F, 0x82, 0x02, 0x41, 0x21, 0x83, 0x02, 0x2F, 0xE2, 0x8A, 0x01, 0x05, 0x80, 0x02, 0x00,
+    0x0A,
+];
+
+#[test]
+fn first_exchanges(rt: HostRuntime) -> Result<(), Fail> {
+    let alloc = rt.alloc();
+    let mut card = card(alloc)?;
+    card.aids.truncate(0);
+    let mut slot = slot_of(alloc, card, &[])?;
+    slot.world(&WorldEvent::Insert(0)).or(Err("insert"))?;
+    answers(&rt, &mut slot, &profile(), &[0x90, 0x00]);
+    answers(
+        &rt,
+        &mut slot,
+        &select(0x04, 0x0C, &USIM[..7]),
+        &[0x6A, 0x82],
+    );
+    let parameters = [
+        0x62, 0x0F, 0x82, 0x02, 0x41, 0x21, 0x83, 0x02, 0x2F, 0xE2, 0x8A, 0x01, 0x05, 0x80, 0x02,
+        0x00, 0x0A, 0x90, 0x00,
+    ];
+    answers(
+        &rt,
+        &mut slot,
+        &select(0x08, 0x04, &[0x2F, 0xE2]),
+        &parameters,
+    );
+    let content = [
+        0x98, 0x10, 0x14, 0x30, 0x12, 0x11, 0x81, 0x15, 0x70, 0x02, 0x90, 0x00,
+    ];
+    answers(&rt, &mut slot, &read(0, 10), &content);
+    answers(
+        &rt,
+        &mut slot,
+        &select(0x08, 0x04, &[0x7F, 0xFF, 0x6F, 0x07]),
+        &[0x6A, 0x82],
+    );
+    Ok(())
+}
+
+// A card whose files cannot be read for one reason or another.
+fn guarded_card(alloc: Global) -> Result<CardState, Fail>
+    ensures { IfOk result IsFittingCard }
+{
+    let mut card = card(alloc)?;
+    let mut endless = file(alloc, &[0x2F02], &ICCID)?;
+    endless.endless = true;
+    add(&mut card, endless)?;
+    let mut inactive = file(alloc, &[0x2F03], &ICCID)?;
+    inactive.active = false;
+    add(&mut card, inactive)?;
+    let mut guarded = file(alloc, &[0x2F04], &ICCID)?;
+    guarded.arr = Some(ArrRef {
+        file_id: 0x2F06,
+        row: 1,
+    });
+    add(&mut card, guarded)?;
+    add(&mut card, file(alloc, &[0x2F06], &READ_BY_PIN)?)?;
+    Ok(card)
+}
+
+#[test]
+fn refused_reads(rt: HostRuntime) -> Result<(), Fail> {
+    let alloc = rt.alloc();
+    let mut slot = slot_of(alloc, guarded_card(alloc)?, &[])?;
+    slot.world(&WorldEvent::Insert(0)).or(Err("insert"))?;
+    answers(&rt, &mut slot, &read(0, 1), &[0x69, 0x86]);
+    for (id, at, le, word) in [
+        (0x02, 0, 10, [0x6C, 0x01]),
+        (0x03, 0, 10, [0x69, 0x85]),
+        (0x04, 0, 10, [0x69, 0x82]),
+        (0xE2, 10, 1, [0x6B, 0x00]),
+        (0xE2, 4, 7, [0x6C, 0x06]),
+        (0xE2, 0, 0, [0x6C, 0x0A]),
+    ] {
+        answers(
+            &rt,
+            &mut slot,
+            &select(0x08, 0x0C, &[0x2F, id]),
+            &[0x90, 0x00],
+        );
+        answers(&rt, &mut slot, &read(at, le), &word);
+    }
+    Ok(())
+}
+
+#[test]
+fn directories_and_applications(rt: HostRuntime) -> Result<(), Fail> {
+    let alloc = rt.alloc();
+    let mut card = card(alloc)?;
+    add(&mut card, file(alloc, &[0x7F10, 0x6F3A], &ICCID)?)?;
+    add(&mut card, file(alloc, &[0x7FFF, 0x6F07], &ICCID)?)?;
+    let mut slot = slot_of(alloc, card, &[])?;
+    slot.world(&WorldEvent::Insert(0)).or(Err("insert"))?;
+    for (id, word) in [
+        ([0x7F, 0x10], [0x90, 0x00]),
+        ([0x6F, 0x3A], [0x90, 0x00]),
+        ([0x6F, 0x3A], [0x90, 0x00]),
+        ([0x2F, 0xE2], [0x6A, 0x82]),
+        ([0x3F, 0x00], [0x90, 0x00]),
+        ([0x2F, 0xE2], [0x90, 0x00]),
+        ([0x7F, 0xFF], [0x6A, 0x82]),
+    ] {
+        answers(&rt, &mut slot, &select(0x00, 0x0C, &id), &word);
+    }
+    let directory = [
+        0x62, 0x0B, 0x82, 0x02, 0x78, 0x21, 0x83, 0x02, 0x7F, 0x10, 0x8A, 0x01, 0x05, 0x90, 0x00,
+    ];
+    answers(
+        &rt,
+        &mut slot,
+        &select(0x08, 0x04, &[0x7F, 0x10]),
+        &directory,
+    );
+    let application = [
+        0x62, 0x15, 0x82, 0x02, 0x78, 0x21, 0x84, 0x0C, 0xA0, 0x00, 0x00, 0x00, 0x87, 0x10, 0x02,
+        0xFF, 0x49, 0xFF, 0xFF, 0x89, 0x8A, 0x01, 0x05, 0x90, 0x00,
+    ];
+    answers(
+        &rt,
+        &mut slot,
+        &select(0x04, 0x04, &USIM[..7]),
+        &application,
+    );
+    answers(
+        &rt,
+        &mut slot,
+        &select(0x00, 0x0C, &[0x6F, 0x07]),
+        &[0x90, 0x00],
+    );
+    answers(
+        &rt,
+        &mut slot,
+        &select(0x00, 0x0C, &[0x7F, 0xFF]),
+        &[0x90, 0x00],
+    );
+    Ok(())
+}
+
+#[test]
+fn parameters_wait(rt: HostRuntime) -> Result<(), Fail> {
+    let alloc = rt.alloc();
+    let mut card = card(alloc)?;
+    card.get_response = true;
+    let mut slot = slot_of(alloc, card, &[])?;
+    slot.world(&WorldEvent::Insert(0)).or(Err("insert"))?;
+    answers(
+        &rt,
+        &mut slot,
+        &select(0x08, 0x04, &[0x2F, 0xE2]),
+        &[0x61, 0x11],
+    );
+    let card = slot.state().cards.get(0).ok_or("a card")?;
+    let waiting = card.waiting.as_ref().ok_or("bytes")?;
+    assert_eq!(rt; waiting.channel, 0);
+    assert_eq!(rt; waiting.bytes.as_slice(), PARAMETERS.as_slice());
+    answers(&rt, &mut slot, &profile(), &[0x90, 0x00]);
+    let card = slot.state().cards.get(0).ok_or("a card")?;
+    assert!(rt; card.waiting.is_none());
+    Ok(())
+}
+
+#[test]
+fn classes_and_parameters(rt: HostRuntime) -> Result<(), Fail> {
+    let alloc = rt.alloc();
+    let mut slot = slot_of(alloc, card(alloc)?, &[])?;
+    slot.world(&WorldEvent::Insert(0)).or(Err("insert"))?;
+    for (class, p1, word) in [
+        (0x04, 0x08, [0x6E, 0x00]),
+        (0x01, 0x08, [0x68, 0x81]),
+        (0x80, 0x08, [0x6E, 0x00]),
+        (0x00, 0x09, [0x6A, 0x86]),
+        (0x00, 0x08, [0x67, 0x00]),
+    ] {
+        let command = command(class, 0xA4, p1, 0x0C, &[0x2F], None);
+        answers(&rt, &mut slot, &command, &word);
+    }
+    let command = command(0x80, 0x10, 0x00, 0x01, &[0x01], None);
+    answers(&rt, &mut slot, &command, &[0x6A, 0x86]);
+    Ok(())
+}
+
+#[test]
+fn faults_and_a_reset(rt: HostRuntime) -> Result<(), Fail> {
+    let alloc = rt.alloc();
+    let faults = [
+        Fault { at: 1, acted: true },
+        Fault {
+            at: 3,
+            acted: false,
+        },
+        Fault { at: 5, acted: true },
+    ];
+    let mut slot = slot_of(alloc, card(alloc)?, &faults)?;
+    slot.world(&WorldEvent::Insert(0)).or(Err("insert"))?;
+    assert!(rt; slot.exchange(&select(0x08, 0x0C, &[0x2F, 0xE2])).is_err());
+    answers(&rt, &mut slot, &read(0, 1), &[0x98, 0x90, 0x00]);
+    assert!(rt; slot.exchange(&select(0x00, 0x0C, &[0x3F, 0x00])).is_err());
+    answers(&rt, &mut slot, &read(0, 1), &[0x98, 0x90, 0x00]);
+    assert!(rt; slot.reset().is_err());
+    answers(&rt, &mut slot, &read(0, 1), &[0x98, 0x90, 0x00]);
+    assert!(rt; slot.reset().is_ok());
+    answers(&rt, &mut slot, &read(0, 1), &[0x69, 0x86]);
+    Ok(())
+}
+
+#[test]
+fn world_events(rt: HostRuntime) -> Result<(), Fail> {
+    let alloc = rt.alloc();
+    let mut slot = slot_of(alloc, card(alloc)?, &[])?;
+    assert!(rt; slot.exchange(&profile()).is_err());
+    assert!(rt; slot.reset().is_err());
+    for (event, outcome) in [
+        (WorldEvent::Out, Err(WorldRefusal::SlotEmpty)),
+        (WorldEvent::Arm(0), Err(WorldRefusal::SlotEmpty)),
+        (WorldEvent::Arm(1), Err(WorldRefusal::NoChange(1))),
+        (WorldEvent::Insert(1), Err(WorldRefusal::NoImage(1))),
+        (WorldEvent::Insert(0), Ok(())),
+        (WorldEvent::Insert(0), Err(WorldRefusal::SlotFull)),
+        (WorldEvent::Arm(0), Ok(())),
+    ] {
+        assert_eq!(rt; slot.world(&event), outcome);
+    }
+    answers(&rt, &mut slot, &profile(), &[0x91, 0x14]);
+    for _ in 1..64 {
+        assert!(rt; slot.world(&WorldEvent::Arm(0)).is_ok());
+    }
+    assert_eq!(rt; slot.world(&WorldEvent::Arm(0)), Err(WorldRefusal::ArmFull));
+    assert!(rt; slot.world(&WorldEvent::Out).is_ok());
+    assert!(rt; slot.exchange(&profile()).is_err());
+    Ok(())
+}
