@@ -12,3 +12,4 @@ pub mod Legal
 pub mod Texts
 pub mod Run
 pub mod Top
+pub mod Worked

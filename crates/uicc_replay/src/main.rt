@@ -2,11 +2,15 @@
 #![tactic(auto)]
 
 mod iccid;
+mod law;
 mod report;
 mod run;
 mod script;
 mod text;
 mod top;
+
+#[cfg(test)]
+mod tests;
 
 use apdu::{ReaderSource, WriterSink};
 use std::process::ExitCode;
