@@ -46,7 +46,7 @@ first_turns =
 abbrev pub all_turns : List Line
 all_turns =
     missing_turns (0x2F ∷ 0x00 ∷ []) (missing_turns (0x7F ∷ 0xFF ∷ 0x6F ∷ 0x4E ∷ []) (missing_turns (0x7F ∷ 0xFF ∷ 0x6F ∷ 0x40 ∷ [])
-        (missing_turns (0x7F ∷ 0xFF ∷ 0x6F ∷ 0x46 ∷ []) (missing_turns (0x7F ∷ 0xFF ∷ 0x6F ∷ 0xAD ∷ []) (missing_turns (0x7F ∷ 0xFF ∷ 0x6F ∷ 0x07 ∷ []) first_turns)))))
+    (missing_turns (0x7F ∷ 0xFF ∷ 0x6F ∷ 0x46 ∷ []) (missing_turns (0x7F ∷ 0xFF ∷ 0x6F ∷ 0xAD ∷ []) (missing_turns (0x7F ∷ 0xFF ∷ 0x6F ∷ 0x07 ∷ []) first_turns)))))
 
 abbrev pub worked_content : List ℕ
 worked_content = codes "{\"ad\":null,\"apps\":[],\"iccid\":\"89014103211118510720\",\"imsi\":null,\"msisdn\":[],\"spn\":null}"

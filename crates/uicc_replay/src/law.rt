@@ -8,5 +8,4 @@ ghost use Rattle.uicc_replay.specs.Worked.{worked_report, report_at};
 pub fn judges_worked_report()
     ensures legal { legal worked_report ≡ true }
     ensures other_point { legal (report_at 10) ≡ false }
-{
-}
+{}

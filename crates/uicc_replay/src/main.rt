@@ -6,11 +6,10 @@ mod law;
 mod report;
 mod run;
 mod script;
-mod text;
-mod top;
-
 #[cfg(test)]
 mod tests;
+mod text;
+mod top;
 
 use apdu::{ReaderSource, WriterSink};
 use std::process::ExitCode;

@@ -4,9 +4,11 @@ use apdu::{MemorySink, MemorySource};
 use std::alloc::{AllocError, Global};
 use std::test::Fail;
 
-const SCRIPT_WITHOUT_SCHEDULE: &str = "{\"actors\":[[{\"card\":0,\"op\":\"in\"},{\"family\":\"records\",\"op\":\"load\"}]],\"cards\":[{\"files\":[{\"data\":\"98101430121181157002\",\"kind\":\"transparent\",\"path\":\"2FE2\"}]}],\"version\":1}";
+const SCRIPT_WITHOUT_SCHEDULE: &str =
+    "{\"actors\":[[{\"card\":0,\"op\":\"in\"},{\"family\":\"records\",\"op\":\"load\"}]],\"cards\":[{\"files\":[{\"data\":\"98101430121181157002\",\"kind\":\"transparent\",\"path\":\"2FE2\"}]}],\"version\":1}";
 
-const REPORT_WITHOUT_SCHEDULE: &str = "script {\"actors\":[[{\"card\":0,\"op\":\"in\"},{\"family\":\"records\",\"op\":\"load\"}]],\"cards\":[{\"files\":[{\"data\":\"98101430121181157002\",\"kind\":\"transparent\",\"path\":\"2FE2\"}]}],\"version\":1}
+const REPORT_WITHOUT_SCHEDULE: &str =
+    "script {\"actors\":[[{\"card\":0,\"op\":\"in\"},{\"family\":\"records\",\"op\":\"load\"}]],\"cards\":[{\"files\":[{\"data\":\"98101430121181157002\",\"kind\":\"transparent\",\"path\":\"2FE2\"}]}],\"version\":1}
 mode replay
 t 0
 t 1
@@ -69,7 +71,13 @@ fn call(
 
 #[test]
 fn turns_go_round_without_a_schedule(rt: HostRuntime) -> Result<(), Fail> {
-    let (status, sink) = call(rt.alloc(), "replay", SCRIPT_WITHOUT_SCHEDULE.as_bytes(), 0, 0)?;
+    let (status, sink) = call(
+        rt.alloc(),
+        "replay",
+        SCRIPT_WITHOUT_SCHEDULE.as_bytes(),
+        0,
+        0,
+    )?;
     assert_eq!(rt; status, 0);
     assert!(rt; sink.bytes() == REPORT_WITHOUT_SCHEDULE.as_bytes());
     Ok(())
@@ -85,8 +93,12 @@ fn damage_is_shown_at_its_byte(rt: HostRuntime) -> Result<(), Fail> {
         ("FFFFFFFFFFFFFFFFFFFF", "\"\""),
     ];
     for (data, iccid) in shown {
-        let script = format!(in rt.alloc(); "{{\"actors\":[[{{\"card\":0,\"op\":\"in\"}},{{\"family\":\"records\",\"op\":\"load\"}}]],\"cards\":[{{\"files\":[{{\"data\":\"{data}\",\"kind\":\"transparent\",\"path\":\"2fe2\"}}]}}],\"version\":1}}")?;
-        let line = format!(in rt.alloc(); "p 1 records 1 11 {{\"ad\":null,\"apps\":[],\"iccid\":{iccid},\"imsi\":null,\"msisdn\":[],\"spn\":null}}\n")?;
+        let script = format!(in rt.alloc();
+            "{{\"actors\":[[{{\"card\":0,\"op\":\"in\"}},{{\"family\":\"records\",\"op\":\"load\"}}]],\"cards\":[{{\"files\":[{{\"data\":\"{data}\",\"kind\":\"transparent\",\"path\":\"2fe2\"}}]}}],\"version\":1}}"
+        )?;
+        let line = format!(in rt.alloc();
+            "p 1 records 1 11 {{\"ad\":null,\"apps\":[],\"iccid\":{iccid},\"imsi\":null,\"msisdn\":[],\"spn\":null}}\n"
+        )?;
         let (status, sink) = call(rt.alloc(), "replay", script.as_bytes(), 0, 0)?;
         assert_eq!(rt; status, 0, "for {data}");
         assert!(rt; holds(sink.bytes(), line.as_bytes()), "for {data}");
@@ -155,7 +167,9 @@ fn scheduled(alloc: Global, turns: usize) -> Result<String, AllocError> {
     for _ in 1..turns {
         text.push_str(",1")?;
     }
-    text.push_str("],\"actors\":[[{\"card\":0,\"op\":\"in\"},{\"family\":\"records\",\"op\":\"load\"}]],\"cards\":[{\"files\":[{\"data\":\"98\",\"kind\":\"transparent\",\"path\":\"2FE2\"}]}],\"version\":1}")?;
+    text.push_str(
+        "],\"actors\":[[{\"card\":0,\"op\":\"in\"},{\"family\":\"records\",\"op\":\"load\"}]],\"cards\":[{\"files\":[{\"data\":\"98\",\"kind\":\"transparent\",\"path\":\"2FE2\"}]}],\"version\":1}",
+    )?;
     Ok(text)
 }
 
@@ -196,7 +210,10 @@ fn failing_streams_have_their_lines(rt: HostRuntime) -> Result<(), Fail> {
             failing_write,
         )?;
         assert_eq!(rt; status, wanted, "for {word} {failing_read} {failing_write}");
-        assert!(rt; sink.bytes() == text.as_bytes(), "for {word} {failing_read} {failing_write}");
+        assert!(rt;
+            sink.bytes() == text.as_bytes(),
+            "for {word} {failing_read} {failing_write}"
+        );
     }
     Ok(())
 }
