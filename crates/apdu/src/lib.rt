@@ -15,6 +15,7 @@ mod status;
 mod stream;
 mod texts;
 
+
 pub use adapters::{ReaderSource, WriterSink};
 pub use class::{ClassKind, channel_of, class_for};
 pub use command::{ApduError, Command};

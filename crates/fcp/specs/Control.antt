@@ -14,6 +14,7 @@ use Rattle.fcp.specs.declared.rule.Rule.{Rule}
 use Rattle.fcp.specs.declared.control.FcpError.{FcpError}
 use Rattle.fcp.specs.declared.control.FcpError.TheVariants.{Tlv, Missing, Bad}
 use Rattle.fcp.specs.Content.{is_linear, is_transparent, is_directory}
+use Rattle.fcp.specs.Objects.{Objects, objects_read}
 
 -- ---- writing
 
@@ -47,7 +48,7 @@ abbrev pub template_bytes : Fcp → List ℕ → List ℕ
 template_bytes f aid = part_bytes 0x82 (descriptor_bytes f.kind f.width f.count) ++ identity_part f.file_id aid ++ part_bytes 0x8A (life_cycle_byte f.active ∷ []) ++ reference_part f.arr ++ size_part f.kind f.size
 
 -- in template 62
-abbrev pub write_fcp : Fcp → List ℕ → List ℕ
+unfoldable pub write_fcp : Fcp → List ℕ → List ℕ
 write_fcp f aid = part_bytes 0x62 (template_bytes f aid)
 
 -- a file has an id; a transparent one at most 32767 bytes and no rows, a linear one rows of 1 to 255 bytes; a directory has neither size nor rows
@@ -57,23 +58,6 @@ Describes Linear f = IsSome f.file_id × (1 ≤ f.width) × (f.width ≤ 255)
 Describes Directory f = (f.size ≡ 0) × (f.width ≡ 0) × (f.count ≡ 0)
 
 -- ---- reading
-
--- the values of the objects of a template that are read, each of the first object of its tag
-pub record Objects : Type 0 where
-  pub descriptor : Option (List ℕ)
-  pub file_id : Option (List ℕ)
-  pub life_cycle : Option (List ℕ)
-  pub reference : Option (List ℕ)
-  pub size : Option (List ℕ)
-
-abbrev pub objects_of : List Part → Objects
-objects_of parts = record {
-  descriptor = value_of_tag 0x82 parts;
-  file_id = value_of_tag 0x83 parts;
-  life_cycle = value_of_tag 0x8A parts;
-  reference = value_of_tag 0x8B parts;
-  size = value_of_tag 0x80 parts;
-}
 
 -- the kind by the first byte of the descriptor, its two high bits left aside
 abbrev pub kind_of_byte : ℕ → Option FileKind
@@ -160,21 +144,30 @@ fields_of kind descriptor o = do
   size ← or_bad 0x80 (size_of kind o.size)
   Ok (record { kind = kind; size = size; file_id = id; width = shape.0; count = shape.1; active = active; arr = reference_of o.reference })
 
--- what has to be there is looked for before anything is read
-abbrev pub fcp_of_kind : Option FileKind → List ℕ → Objects → Result Fcp FcpError
-fcp_of_kind None descriptor o = Err (Bad 0x82)
-fcp_of_kind (Some kind) descriptor o = elim (missing_of kind o) [ Some tag ↦ Err (Missing tag) | None ↦ fields_of kind descriptor o ]
+abbrev pub or_missing : {A : Type 0} → ℕ → Option A → Result A FcpError
+or_missing tag None = Err (Missing tag)
+or_missing tag (Some x) = Ok x
 
-abbrev pub fcp_of_objects : Option (List ℕ) → Objects → Result Fcp FcpError
-fcp_of_objects None o = Err (Missing 0x82)
-fcp_of_objects (Some descriptor) o = fcp_of_kind (kind_of descriptor) descriptor o
+abbrev pub unless_missing : Option ℕ → Result Fcp FcpError → Result Fcp FcpError
+unless_missing None read = read
+unless_missing (Some tag) read = Err (Missing tag)
 
--- a template is read to its end
+-- what has to be there is looked for before the fields are read
+abbrev pub fcp_of_objects : Objects → Result Fcp FcpError
+fcp_of_objects o = do
+  descriptor ← or_missing 0x82 o.descriptor
+  kind ← or_bad 0x82 (kind_of descriptor)
+  unless_missing (missing_of kind o) (fields_of kind descriptor o)
+
+abbrev pub tlv_error : {A : Type 0} → Result A TlvError → Result A FcpError
+tlv_error (Ok x) = Ok x
+tlv_error (Err error) = Err (Tlv error)
+
+-- a template is read to its end before anything is looked for in it
 abbrev pub template_of : Parts → Result Fcp FcpError
-template_of read = elim read.damage [
-  | Some damage ↦ Err (Tlv damage)
-  | None ↦ fcp_of_objects (objects_of read.parts).descriptor (objects_of read.parts)
-]
+template_of read = do
+  o ← tlv_error (objects_read read)
+  fcp_of_objects o
 
 -- the first object is the template; what follows it is not read
 abbrev pub fcp_of_parts : List Part → Option TlvError → Result Fcp FcpError
@@ -212,7 +205,7 @@ need_for bit (mode ∷ condition ∷ rest) = if has_mode bit mode then need_of c
 need_for bit _ = Never
 
 -- bit 1 of the access mode is reading, bit 2 updating
-abbrev pub read_rule : List ℕ → Rule
+unfoldable pub read_rule : List ℕ → Rule
 read_rule bytes = record { read = need_for 1 (ber_parts bytes).parts; update = need_for 2 (ber_parts bytes).parts }
 
 -- two parts were taken from the front, or there were not two

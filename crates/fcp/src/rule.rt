@@ -22,6 +22,7 @@ pub struct Rule {
 }
 
 /// Reads a rule. What cannot be read, and an access of which no pair speaks, is never allowed.
+#[tactic(auto, unfolding(crate::specs::Control::read_rule))]
 pub fn read_rule(bytes: &[u8]) -> Rule
     ensures { result ≡ read_rule bytes.now }
 {

@@ -1,8 +1,8 @@
 // Control parameters as a card writes them.
-ghost use Rattle.std.specs.Prelude.{◌≡◌, ◌+◌, ◌≤◌, ◌++◌, length};
+ghost use Rattle.std.specs.Prelude.{◌≡◌, ◌+◌, ◌≤◌, ◌++◌, length, Ok};
 ghost use Rattle.apdu.specs.Words.{two_bytes};
 ghost use Rattle.tlv.specs.Objects.{part_bytes};
-ghost use Rattle.fcp.specs.Control.{write_fcp, template_bytes, descriptor_bytes, identity_part, reference_part, size_part, life_cycle_byte};
+ghost use Rattle.fcp.specs.Control.{write_fcp, read_fcp, Describes, template_bytes, descriptor_bytes, identity_part, reference_part, size_part, life_cycle_byte};
 
 use crate::{ArrRef, Fcp, FileKind};
 use arrayvec::ArrayVec;
@@ -10,9 +10,11 @@ use tlv::put_tlv;
 
 /// Writes the template of these control parameters. The AID is that of an application's directory, which has no
 /// file id.
+#[tactic(auto, unfolding(crate::specs::Control::write_fcp))]
 pub fn write_fcp(fcp: &Fcp, aid: &[u8]) -> ArrayVec<u8, 64>
     requires { length aid.now ≤ 16 }
     ensures value { result.items ≡ write_fcp fcp.now aid.now }
+    ensures read_back { Describes fcp.now.kind fcp.now → read_fcp result.items ≡ Ok fcp.now }
 {
     let template = template(fcp, aid);
     let mut out = ArrayVec::new();
@@ -24,6 +26,7 @@ fn template(fcp: &Fcp, aid: &[u8]) -> ArrayVec<u8, 62>
     requires { length aid.now ≤ 16 }
     ensures value { result.items ≡ template_bytes fcp.now aid.now }
     ensures short { length result.items ≤ 37 }
+    ensures two_bytes { fcp.now.size ≤ 65535 }
 {
     let mut out = ArrayVec::new();
     put_descriptor(&mut out, fcp.kind, fcp.width, fcp.count);
