@@ -1,9 +1,9 @@
 -- What is written of a file or a directory is read back.
-use Rattle.std.proofs.Common.{◌≡◌, ◌≤◌, ℕ, ◌+◌, ◌*◌, ◌/◌, ◌%◌, Bool, true, false, List, [], ◌∷◌, ◌++◌, length, Option, Some, None, Ok, nat_le, refl, sym, ap, ◌∙◌, append_assoc, append-nil, arith}
+use Rattle.std.proofs.Common.{◌≡◌, ◌≤◌, ℕ, ◌/◌, ◌%◌, Bool, true, false, List, [], ◌∷◌, ◌++◌, Option, Some, None, Ok, nat_le, refl, sym, ap, ◌∙◌, append_assoc, append-nil, arith}
 use Rattle.std.proofs.lemmas.Bool.{le-leb, false≢true}
 use Rattle.apdu.specs.Words.{pair_value, two_bytes}
 use Rattle.tlv.specs.Objects.{Parts, stopped, with_part, ber_tag, ber_parts, part_bytes}
-use Rattle.tlv.proofs.Written.{parts_at, index_behind, parts_at-written}
+use Rattle.tlv.proofs.Written.{parts_at, parts_at-written}
 use Rattle.fcp.specs.declared.rows.FileKind.{FileKind}
 use Rattle.fcp.specs.declared.rows.FileKind.TheVariants.{Transparent, Linear, Directory}
 use Rattle.fcp.specs.declared.control.Fcp.{Fcp}

@@ -3,7 +3,7 @@ use Rattle.std.specs.Prelude.{◌≡◌, ◌≤◌, ℕ, ◌+◌, ◌*◌, ◌%�
 use Rattle.std.specs.Borrow.{Bor}
 use Rattle.apdu.specs.Words.{pair_value, two_bytes, is_bit, is_one_of, is_between, same_bytes}
 use Rattle.tlv.specs.declared.error.TlvError.{TlvError}
-use Rattle.tlv.specs.Objects.{Part, Parts, ber_parts, value_of_tag, part_bytes}
+use Rattle.tlv.specs.Objects.{Part, Parts, ber_parts, part_bytes}
 use Rattle.fcp.specs.declared.rows.FileKind.{FileKind}
 use Rattle.fcp.specs.declared.rows.FileKind.TheVariants.{Transparent, Linear, Directory}
 use Rattle.fcp.specs.declared.control.Fcp.{Fcp}
@@ -13,7 +13,7 @@ use Rattle.fcp.specs.declared.rule.Need.TheVariants.{Always, Never, Key}
 use Rattle.fcp.specs.declared.rule.Rule.{Rule}
 use Rattle.fcp.specs.declared.control.FcpError.{FcpError}
 use Rattle.fcp.specs.declared.control.FcpError.TheVariants.{Tlv, Missing, Bad}
-use Rattle.fcp.specs.Content.{is_linear, is_transparent, is_directory}
+use Rattle.fcp.specs.Content.{is_transparent, is_directory}
 use Rattle.fcp.specs.Objects.{Objects, objects_read}
 
 -- ---- writing

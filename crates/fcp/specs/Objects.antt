@@ -1,5 +1,5 @@
 -- The objects of a template of control parameters that are read, ETSI TS 102 221 clause 11.1.1.3.
-use Rattle.std.specs.Prelude.{◌≡◌, ℕ, ◌==◌, Bool, if◌then◌else◌, List, Option, Some, None, Result, Ok, Err}
+use Rattle.std.specs.Prelude.{ℕ, ◌==◌, Bool, if◌then◌else◌, List, Option, Some, None, Result, Ok, Err}
 use Rattle.apdu.specs.Words.{or_else}
 use Rattle.tlv.specs.declared.error.TlvError.{TlvError}
 use Rattle.tlv.specs.Objects.{Part, Parts, value_of_tag}

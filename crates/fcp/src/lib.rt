@@ -13,3 +13,6 @@ pub use reader::read_fcp;
 pub use rows::{FileKind, FileView, Rows};
 pub use rule::{Need, Rule, read_rule};
 pub use writer::write_fcp;
+
+#[cfg(test)]
+mod tests;

@@ -92,7 +92,7 @@ fn shape_of(kind: FileKind, descriptor: &[u8]) -> Option<(u16, u8)>
             return None;
         }
         let width = u16::from(descriptor[2]) * 256 + u16::from(descriptor[3]);
-        return (1 <= width && width <= 255).then_some((width, descriptor[4]));
+        return (1..=255).contains(&width).then_some((width, descriptor[4]));
     }
     (descriptor.len() >= 2).then_some((0, 0))
 }

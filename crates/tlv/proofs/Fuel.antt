@@ -1,5 +1,5 @@
 -- The parts of bytes do not hang on how much fuel there is, as long as it is enough.
-use Rattle.std.proofs.Common.{◌≡◌, ℕ, zero, suc, ◌+◌, ◌<◌, ◌≤◌, Bool, true, false, List, [], ◌∷◌, length, take, drop, nat_lt, if◌then◌else◌, ◌==◌, cond, refl, sym, ap, ◌∙◌, arith, length-drop}
+use Rattle.std.proofs.Common.{◌≡◌, ℕ, zero, suc, ◌<◌, ◌≤◌, Bool, true, false, List, [], ◌∷◌, length, nat_lt, if◌then◌else◌, ◌==◌, refl, ap, arith, length-drop}
 use Rattle.tlv.specs.declared.object.TagByte.{TagByte}
 use Rattle.tlv.specs.declared.object.TagByte.TheVariants.{Ends, Bad, Begins}
 use Rattle.tlv.specs.Objects.{Parts, Front, nothing, damaged, object, with_part, parts_by, parts_from, front, with_tag, with_length, with_long_length, with_value}

@@ -1,11 +1,11 @@
 -- What is written of an object is read back, whatever stands behind it.
-use Rattle.std.proofs.Common.{◌≡◌, ℕ, ◌+◌, Bool, true, false, List, [], ◌∷◌, ◌++◌, length, take, drop, nat_lt, if◌then◌else◌, refl, ap, ◌∙◌, arith}
+use Rattle.std.proofs.Common.{◌≡◌, ℕ, ◌+◌, Bool, true, false, List, ◌∷◌, ◌++◌, length, nat_lt, if◌then◌else◌, refl, ap, ◌∙◌, arith}
 use Rattle.std.proofs.lemmas.List.{length-append}
 use Rattle.std.proofs.lemmas.Bool.{le-ltb}
 use Rattle.std.proofs.Math.Seq.{take-append_seam, drop-append_seam}
 use Rattle.tlv.specs.declared.object.TagByte.{TagByte}
 use Rattle.tlv.specs.declared.object.TagByte.TheVariants.{Begins}
-use Rattle.tlv.specs.Objects.{Parts, Front, object, with_part, parts_by, parts_from, front, with_tag, with_length, with_value, part_bytes}
+use Rattle.tlv.specs.Objects.{Parts, object, with_part, parts_by, parts_from, front, with_value, part_bytes}
 use Rattle.tlv.proofs.Fuel.{parts_from-front}
 
 -- the parts of all these bytes, which stand at index `at`

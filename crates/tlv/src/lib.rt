@@ -9,3 +9,6 @@ mod writer;
 pub use error::TlvError;
 pub use reader::{BerReader, SimpleReader};
 pub use writer::put_tlv;
+
+#[cfg(test)]
+mod tests;

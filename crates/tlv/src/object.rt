@@ -44,10 +44,7 @@ pub fn front<'a>(form: Form, at: usize, bytes: &'a [u8]) -> Result<Option<Object
     match tag_by(form, *first) {
         TagByte::Ends => Ok(None),
         TagByte::Bad => Err(TlvError::BadTag { at }),
-        TagByte::Begins(tag) => match with_length(tag, at, rest) {
-            Ok(object) => Ok(Some(object)),
-            Err(error) => Err(error),
-        },
+        TagByte::Begins(tag) => with_length(tag, at, rest).map(Some),
     }
 }
 
@@ -99,7 +96,7 @@ fn with_length<'a>(tag: u8, at: usize, bytes: &'a [u8]) -> Result<Object<'a>, Tl
     }
 }
 
-/// The same behind a byte 81.
+/// The object of this tag at index `at`, whose length stands behind a byte 81.
 fn with_long_length<'a>(tag: u8, at: usize, bytes: &'a [u8]) -> Result<Object<'a>, TlvError>
     requires { at + 2 + length bytes.now < 2 ^ 64 }
     ensures { object_seen result ≡ with_long_length tag at bytes.now }

@@ -1,0 +1,8 @@
+pub mod Counts
+pub mod Endings
+pub mod Fits
+pub mod IccidDigits
+pub mod Pasts
+pub mod Reading
+pub mod Steps
+pub mod Turns

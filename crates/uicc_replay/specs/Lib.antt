@@ -1,0 +1,15 @@
+pub mod Script
+pub mod Families
+pub mod Iccid
+pub mod Field
+pub mod History
+pub mod Turns
+pub mod Chains
+pub mod Readings
+pub mod Open
+pub mod Shown
+pub mod Legal
+pub mod Texts
+pub mod Run
+pub mod Top
+pub mod Worked

@@ -1,0 +1,101 @@
+-- Turns and operations: whose turn it is, which operation an actor is at, and what it was answered.
+use Rattle.std.specs.Prelude.{ℕ, ◌+◌, ◌==◌, ◌||◌, not, Bool, true, false, nat_lt, if◌then◌else◌, List, [], ◌∷◌, length, slice_get, Option, Some, None, option_and_then, is_some}
+use Rattle.card_model.specs.declared.world.WorldEvent.{WorldEvent}
+use Rattle.card_model.specs.declared.world.WorldEvent.TheVariants as world_event
+use Rattle.uicc_replay.specs.Families.{records}
+use Rattle.uicc_replay.specs.declared.script.Script.{Script}
+use Rattle.uicc_replay.specs.declared.report.Line.{Line}
+use Rattle.uicc_replay.specs.declared.report.Line.TheVariants as line
+use Rattle.uicc_replay.specs.History.{counted}
+
+-- ---- the operations of a script; actors are numbered from 1, operations from 0
+
+pub data Operation : Type 0 where
+  -- the card of this number is put into the slot
+  insert : ℕ → Operation
+  -- the files of this family are read and published
+  load : ℕ → Operation
+
+abbrev pub actor_count : Script → ℕ
+actor_count s = 1
+
+-- the one actor puts the card in, and loads the records
+abbrev pub operations_of : Script → ℕ → List Operation
+operations_of s actor = if actor == 1 then insert 0 ∷ load records ∷ [] else []
+
+abbrev pub operation_at : Script → ℕ → ℕ → Option Operation
+operation_at s actor op = slice_get (operations_of s actor) op
+
+abbrev pub loads_family : ℕ → Operation → Bool
+loads_family f (insert j) = false
+loads_family f (load g) = g == f
+
+-- ---- turns
+
+-- the actor of the last mark
+abbrev pub turn_actor_by : Line → Option ℕ → Option ℕ
+turn_actor_by (line.Turn a) before = Some a
+turn_actor_by l before = before
+
+abbrev pub turn_actor : List Line → Option ℕ
+turn_actor [] = None
+turn_actor (l ∷ earlier) = turn_actor_by l (turn_actor earlier)
+
+-- the publication of this family in the last turn
+abbrev pub published_in_turn_by : ℕ → Line → Option ℕ → Option ℕ
+published_in_turn_by f (line.Turn a) before = None
+published_in_turn_by f (line.Published k g e n text) before = if g == f then Some k else before
+published_in_turn_by f l before = before
+
+abbrev pub published_in_turn : ℕ → List Line → Option ℕ
+published_in_turn f [] = None
+published_in_turn f (l ∷ earlier) = published_in_turn_by f l (published_in_turn f earlier)
+
+-- the world event of the last turn
+abbrev pub event_in_turn_by : Line → Option WorldEvent → Option WorldEvent
+event_in_turn_by (line.Turn a) before = None
+event_in_turn_by (line.World a e) before = Some e
+event_in_turn_by l before = before
+
+abbrev pub event_in_turn : List Line → Option WorldEvent
+event_in_turn [] = None
+event_in_turn (l ∷ earlier) = event_in_turn_by l (event_in_turn earlier)
+
+-- ---- operations
+
+abbrev pub begins_operation : ℕ → Line → Bool
+begins_operation actor (line.Begin a i) = a == actor
+begins_operation actor _ = false
+
+abbrev pub answers_operation : ℕ → Line → Bool
+answers_operation actor (line.Answered a i answer) = a == actor
+answers_operation actor _ = false
+
+-- the line begins or answers an operation of this actor: what is said of the actor's present job does not look past it
+abbrev pub is_job_border : ℕ → Line → Bool
+is_job_border actor l = begins_operation actor l || answers_operation actor l
+
+-- how many operations of an actor are answered
+abbrev pub answered_count : ℕ → List Line → ℕ
+answered_count actor [] = 0
+answered_count actor (l ∷ earlier) = counted (answers_operation actor l) (answered_count actor earlier)
+
+-- the operation that is begun and not answered
+abbrev pub open_operation_by : ℕ → Line → Option ℕ → Option ℕ
+open_operation_by actor (line.Begin a i) before = if a == actor then Some i else before
+open_operation_by actor (line.Answered a i answer) before = if a == actor then None else before
+open_operation_by actor l before = before
+
+abbrev pub open_operation : ℕ → List Line → Option ℕ
+open_operation actor [] = None
+open_operation actor (l ∷ earlier) = open_operation_by actor l (open_operation actor earlier)
+
+abbrev pub operation_now : Script → ℕ → List Line → Option Operation
+operation_now s actor lines = option_and_then (operation_at s actor) (open_operation actor lines)
+
+abbrev pub has_operations_left : Script → ℕ → List Line → Bool
+has_operations_left s actor lines = nat_lt (answered_count actor lines) (length (operations_of s actor))
+
+-- every actor's operations are answered
+abbrev pub all_answered : Script → List Line → Bool
+all_answered s lines = not (has_operations_left s 1 lines)

@@ -1,0 +1,27 @@
+//! Replays a script of a card and its users through the framework, and writes the report.
+#![tactic(auto)]
+
+mod iccid;
+mod law;
+mod report;
+mod run;
+mod script;
+#[cfg(test)]
+mod tests;
+mod text;
+mod top;
+
+use apdu::{ReaderSource, WriterSink};
+use std::process::ExitCode;
+use std::{env, io};
+
+fn main(rt: HostRuntime) -> io::Result<ExitCode> {
+    let mut words = Vec::new(rt.alloc());
+    for word in env::args(&rt)?.skip(1) {
+        words.push(word)?;
+    }
+    let mut source = ReaderSource::new(rt.stdin());
+    let mut sink = WriterSink::new(rt.stdout());
+    let outcome = top::top(rt.alloc(), words.as_slice(), &mut source, &mut sink);
+    Ok(ExitCode::from(outcome.status))
+}

@@ -1,0 +1,315 @@
+// The text of a report.
+ghost use Rattle.std.specs.Prelude.{◌≡◌, ◌++◌, reverse, decimal, string_bytes, OnOk, IfOk};
+ghost use Rattle.hex.specs.Hex.{encode_upper};
+ghost use Rattle.uicc_replay.specs.Iccid.{iccid_of};
+ghost use Rattle.uicc_replay.specs.Shown.{quoted_text, bad_text, digits_text, records_text};
+ghost use Rattle.uicc_replay.specs.Texts.{answer_text, event_text, family_text, acted_text, command_text, response_text, snapshot_text, event_words, other_words, line_text, lines_text, others_text, schedule_text, script_head, script_middle, script_text, mode_text, report_text};
+
+use crate::iccid::{FieldError, iccid};
+use crate::report::{Answer, Line, Mode, Report};
+use crate::script::Script;
+use apdu::{Command, Memory, Response, Text};
+use card_model::WorldEvent;
+use std::alloc::Global;
+
+fn put(out: &mut String, text: &str) -> Result<(), Memory>
+    ensures { OnOk result (string_bytes out.new ≡ string_bytes out.old ++ text.now) }
+{
+    out.push_str(text)?;
+    Ok(())
+}
+
+fn put_number(alloc: Global, out: &mut String, number: u64) -> Result<(), Memory>
+    ensures { OnOk result (string_bytes out.new ≡ string_bytes out.old ++ decimal number) }
+{
+    let text = number.to_string(alloc)?;
+    out.push_str(text.as_str())?;
+    Ok(())
+}
+
+fn put_hex(alloc: Global, out: &mut String, bytes: &[u8]) -> Result<(), Memory>
+    ensures { OnOk result (string_bytes out.new ≡ string_bytes out.old ++ encode_upper bytes.now) }
+{
+    let text = hex::encode_upper(alloc, bytes)?;
+    out.push_str(text.as_str())?;
+    Ok(())
+}
+
+fn put_numbered(alloc: Global, out: &mut String, word: &str, number: u64) -> Result<(), Memory>
+    ensures { OnOk result (string_bytes out.new ≡ string_bytes out.old ++ word.now ++ decimal number) }
+{
+    put(out, word)?;
+    put_number(alloc, out, number)
+}
+
+fn put_answer(alloc: Global, out: &mut String, answer: Answer) -> Result<(), Memory>
+    ensures { OnOk result (string_bytes out.new ≡ string_bytes out.old ++ answer_text answer) }
+{
+    match answer {
+        Answer::Moved => put(out, " moved"),
+        Answer::Loaded { publication } => put_numbered(alloc, out, " loaded ", publication),
+    }
+}
+
+fn put_event(alloc: Global, out: &mut String, event: WorldEvent) -> Result<(), Memory>
+    ensures { OnOk result (string_bytes out.new ≡ string_bytes out.old ++ event_text event) }
+{
+    match event {
+        WorldEvent::Arm(change) => put_numbered(alloc, out, " arm ", change as u64),
+        WorldEvent::Out => put(out, " out"),
+        WorldEvent::Insert(card) => put_numbered(alloc, out, " in ", card as u64),
+    }
+}
+
+fn put_family(out: &mut String, family: u8) -> Result<(), Memory>
+    ensures { OnOk result (string_bytes out.new ≡ string_bytes out.old ++ family_text family) }
+{
+    if family == 0 {
+        return put(out, " records");
+    }
+    if family == 1 {
+        return put(out, " phonebook");
+    }
+    put(out, " fixed")
+}
+
+fn put_acted(out: &mut String, acted: bool) -> Result<(), Memory>
+    ensures { OnOk result (string_bytes out.new ≡ string_bytes out.old ++ acted_text acted) }
+{
+    if acted {
+        put(out, " 1")
+    } else {
+        put(out, " 0")
+    }
+}
+
+fn put_command(alloc: Global, out: &mut String, command: &Command) -> Result<(), Memory>
+    ensures { OnOk result (string_bytes out.new ≡ string_bytes out.old ++ command_text command.now) }
+{
+    put(out, " ")?;
+    put_hex(alloc, out, command.write().as_slice())
+}
+
+fn put_response(alloc: Global, out: &mut String, response: &Response) -> Result<(), Memory>
+    ensures { OnOk result (string_bytes out.new ≡ string_bytes out.old ++ response_text response.now) }
+{
+    put(out, " ")?;
+    put_hex(alloc, out, response.write().as_slice())
+}
+
+fn put_snapshot(
+    alloc: Global,
+    out: &mut String,
+    epoch: u64,
+    point: u64,
+    content: &Text,
+) -> Result<(), Memory>
+    ensures { OnOk result (string_bytes out.new ≡ string_bytes out.old ++ snapshot_text epoch point content.now) }
+{
+    put_numbered(alloc, out, " ", epoch)?;
+    put_numbered(alloc, out, " ", point)?;
+    put(out, " ")?;
+    put(out, content.as_str())
+}
+
+/// The words of a line that sends a command, resets the card or makes a world event happen.
+fn put_event_words(alloc: Global, out: &mut String, line: &Line) -> Result<(), Memory>
+    ensures { OnOk result (string_bytes out.new ≡ string_bytes out.old ++ event_words line.now) }
+{
+    match line {
+        Line::Exchange {
+            actor,
+            command,
+            response,
+        } => {
+            put_numbered(alloc, out, "x ", *actor as u64)?;
+            put_command(alloc, out, command)?;
+            put_response(alloc, out, response)
+        }
+        Line::Failed {
+            actor,
+            command,
+            acted,
+        } => {
+            put_numbered(alloc, out, "f ", *actor as u64)?;
+            put_command(alloc, out, command)?;
+            put_acted(out, *acted)
+        }
+        Line::Reset { actor } => put_numbered(alloc, out, "r ", *actor as u64),
+        Line::ResetFailed { actor } => put_numbered(alloc, out, "q ", *actor as u64),
+        Line::World { actor, event } => {
+            put_numbered(alloc, out, "w ", *actor as u64)?;
+            put_event(alloc, out, *event)
+        }
+        _ => Ok(()),
+    }
+}
+
+/// The words of every other line.
+fn put_other_words(alloc: Global, out: &mut String, line: &Line) -> Result<(), Memory>
+    ensures { OnOk result (string_bytes out.new ≡ string_bytes out.old ++ other_words line.now) }
+{
+    match line {
+        Line::Turn { actor } => put_numbered(alloc, out, "t ", *actor as u64),
+        Line::Begin { actor, op } => {
+            put_numbered(alloc, out, "b ", *actor as u64)?;
+            put_numbered(alloc, out, " ", *op as u64)
+        }
+        Line::Published {
+            number,
+            family,
+            epoch,
+            point,
+            content,
+        } => {
+            put_numbered(alloc, out, "p ", *number)?;
+            put_family(out, *family)?;
+            put_snapshot(alloc, out, *epoch, *point, content)
+        }
+        Line::EpochEnd {
+            number,
+            epoch,
+            event,
+        } => {
+            put_numbered(alloc, out, "z ", *number)?;
+            put_numbered(alloc, out, " ", *epoch)?;
+            put_numbered(alloc, out, " ", *event)
+        }
+        Line::Refused { family, event } => {
+            put(out, "d")?;
+            put_family(out, *family)?;
+            put_numbered(alloc, out, " ", *event)
+        }
+        Line::Answered { actor, op, answer } => {
+            put_numbered(alloc, out, "a ", *actor as u64)?;
+            put_numbered(alloc, out, " ", *op as u64)?;
+            put_answer(alloc, out, *answer)
+        }
+        _ => Ok(()),
+    }
+}
+
+fn put_line(alloc: Global, out: &mut String, line: &Line) -> Result<(), Memory>
+    ensures { OnOk result (string_bytes out.new ≡ string_bytes out.old ++ line_text line.now) }
+{
+    put_event_words(alloc, out, line)?;
+    put_other_words(alloc, out, line)?;
+    put(out, "\n")
+}
+
+fn put_lines(alloc: Global, out: &mut String, lines: &[Line]) -> Result<(), Memory>
+    ensures { OnOk result (string_bytes out.new ≡ string_bytes out.old ++ lines_text (reverse lines.now)) }
+{
+    for line in lines {
+        put_line(alloc, out, line)?;
+    }
+    Ok(())
+}
+
+#[tactic(auto, unfolding(crate::specs::Texts::script_head))]
+fn put_head(out: &mut String) -> Result<(), Memory>
+    ensures { OnOk result (string_bytes out.new ≡ string_bytes out.old ++ script_head) }
+{
+    put(
+        out,
+        "{\"actors\":[[{\"card\":0,\"op\":\"in\"},{\"family\":\"records\",\"op\":\"load\"}]],\"cards\":[{\"files\":[{\"data\":\"",
+    )
+}
+
+#[tactic(auto, unfolding(crate::specs::Texts::script_middle))]
+fn put_middle(out: &mut String) -> Result<(), Memory>
+    ensures { OnOk result (string_bytes out.new ≡ string_bytes out.old ++ script_middle) }
+{
+    put(out, "\",\"kind\":\"transparent\",\"path\":\"2FE2\"}]}]")
+}
+
+fn put_others(alloc: Global, out: &mut String, others: &[u8]) -> Result<(), Memory>
+    ensures { OnOk result (string_bytes out.new ≡ string_bytes out.old ++ others_text others.now) }
+{
+    for actor in others {
+        put(out, ",")?;
+        put_number(alloc, out, *actor as u64)?;
+    }
+    put(out, "]")
+}
+
+fn put_schedule(alloc: Global, out: &mut String, schedule: &[u8]) -> Result<(), Memory>
+    ensures { OnOk result (string_bytes out.new ≡ string_bytes out.old ++ schedule_text schedule.now) }
+{
+    if let [first, others @ ..] = schedule {
+        put(out, ",\"schedule\":[")?;
+        put_number(alloc, out, *first as u64)?;
+        put_others(alloc, out, others)?;
+    }
+    Ok(())
+}
+
+#[tactic(auto, unfolding(crate::specs::Texts::script_text))]
+fn put_script(alloc: Global, out: &mut String, script: &Script) -> Result<(), Memory>
+    ensures { OnOk result (string_bytes out.new ≡ string_bytes out.old ++ script_text script.now) }
+{
+    put_head(out)?;
+    put_hex(alloc, out, script.iccid_file.as_slice())?;
+    put_middle(out)?;
+    put_schedule(alloc, out, script.schedule.as_slice())?;
+    put(out, ",\"version\":1}")?;
+    Ok(())
+}
+
+fn put_mode(out: &mut String, mode: Mode) -> Result<(), Memory>
+    ensures { OnOk result (string_bytes out.new ≡ string_bytes out.old ++ mode_text mode) }
+{
+    match mode {
+        Mode::Replay => put(out, "\nmode replay\n"),
+        Mode::Run => put(out, "\nmode run\n"),
+    }
+}
+
+/// The text of a report: a line for the script, one for the mode, one for each of its lines, and `end`.
+pub fn write_report(alloc: Global, report: &Report) -> Result<Text, Memory>
+    ensures { IfOk result (λ text. text ≡ report_text report.now) }
+{
+    let mut out = String::new(alloc);
+    put(&mut out, "script ")?;
+    put_script(alloc, &mut out, &report.script)?;
+    put_mode(&mut out, report.mode)?;
+    put_lines(alloc, &mut out, report.lines.as_slice())?;
+    put(&mut out, "end\n")?;
+    Ok(Text::from_string(out))
+}
+
+fn put_quoted(out: &mut String, digits: &str) -> Result<(), Memory>
+    ensures { OnOk result (string_bytes out.new ≡ string_bytes out.old ++ quoted_text digits.now) }
+{
+    put(out, "\"")?;
+    put(out, digits)?;
+    put(out, "\"")
+}
+
+fn put_bad(alloc: Global, out: &mut String, at: usize) -> Result<(), Memory>
+    ensures { OnOk result (string_bytes out.new ≡ string_bytes out.old ++ bad_text at) }
+{
+    put_numbered(alloc, out, "{\"bad\":", at as u64)?;
+    put(out, "}")
+}
+
+fn put_iccid(alloc: Global, out: &mut String, bytes: &[u8]) -> Result<(), Memory>
+    ensures { OnOk result (string_bytes out.new ≡ string_bytes out.old ++ digits_text (iccid_of bytes.now)) }
+{
+    match iccid(alloc, bytes) {
+        Ok(digits) => put_quoted(out, digits.as_str()),
+        Err(FieldError::Malformed { at }) => put_bad(alloc, out, at),
+        Err(FieldError::Memory) => Err(Memory),
+    }
+}
+
+/// What is shown of the records of a card whose only file is EF_ICCID, of these bytes.
+pub fn records_content(alloc: Global, iccid_file: &[u8]) -> Result<Text, Memory>
+    ensures { IfOk result (λ text. text ≡ records_text (digits_text (iccid_of iccid_file.now))) }
+{
+    let mut out = String::new(alloc);
+    put(&mut out, "{\"ad\":null,\"apps\":[],\"iccid\":")?;
+    put_iccid(alloc, &mut out, iccid_file)?;
+    put(&mut out, ",\"imsi\":null,\"msisdn\":[],\"spn\":null}")?;
+    Ok(Text::from_string(out))
+}
