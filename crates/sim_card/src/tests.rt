@@ -1,7 +1,6 @@
 // Exchanges with a card of a few files, byte for byte.
-ghost use Rattle.std.specs.Prelude.{◌≡◌, ◌<◌, ◌^◌, ◌∷◌, [], length, All, IsTrue, IfOk};
+ghost use Rattle.std.specs.Prelude.{◌≡◌, ◌<◌, ◌^◌, length, IsTrue, IfOk};
 ghost use Rattle.apdu.specs.Values.{HasLe};
-ghost use Rattle.apdu.specs.Apdu.{select_ins, read_binary_ins, terminal_profile_ins};
 ghost use Rattle.card_model.specs.Step.{is_served};
 ghost use Rattle.card_model.specs.Limits.{HasFittingParameters, IsFittingCard, IsFittingChange};
 
