@@ -108,12 +108,10 @@ fn damage_is_shown_at_its_byte(rt: HostRuntime) -> Result<(), Fail> {
 
 /// Whether the bytes hold the piece somewhere.
 fn holds(bytes: &[u8], piece: &[u8]) -> bool {
-    let mut rest = bytes;
-    while let [_, after @ ..] = rest {
-        if rest.starts_with(piece) {
+    for at in 0..bytes.len() {
+        if bytes[at..].starts_with(piece) {
             return true;
         }
-        rest = after;
     }
     false
 }
