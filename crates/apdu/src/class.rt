@@ -16,8 +16,16 @@ pub fn class_for(kind: ClassKind, channel: u8) -> u8
     ensures inverse { channel_of_class result ≡ Some (kind, channel) }
 {
     match kind {
-        ClassKind::Plain => if channel < 4 { channel } else { 0x40 + (channel - 4) },
-        ClassKind::Toolkit => if channel < 4 { 0x80 + channel } else { 0xC0 + (channel - 4) },
+        ClassKind::Plain => if channel < 4 {
+            channel
+        } else {
+            0x40 + (channel - 4)
+        },
+        ClassKind::Toolkit => if channel < 4 {
+            0x80 + channel
+        } else {
+            0xC0 + (channel - 4)
+        },
     }
 }
 

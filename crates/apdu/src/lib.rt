@@ -15,7 +15,6 @@ mod status;
 mod stream;
 mod texts;
 
-
 pub use adapters::{ReaderSource, WriterSink};
 pub use class::{ClassKind, channel_of, class_for};
 pub use command::{ApduError, Command};

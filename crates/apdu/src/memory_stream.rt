@@ -2,7 +2,6 @@
 ghost use Rattle.std.specs.Prelude.{◌≡◌, ◌≤◌, ◌<◌, ◌+◌, ◌-◌, ◌^◌, min, ◌==◌, ◌++◌, [], length, is_err, IfOk, OnOk, OnErr, Some, false};
 ghost use Rattle.apdu.specs.Stream.{HasCause, Reads, Appends, AppendsPart};
 
-
 use crate::{Failed, Sink, Source};
 use std::alloc::Global;
 use std::marker::Model;
