@@ -104,34 +104,34 @@ with_le le c = record c { le = Some le }
 abbrev pub le_of_byte : ℕ → ℕ
 le_of_byte b = if b == 0 then 256 else b
 
--- the command of this header, with a body and an Le
-abbrev pub headed : List ℕ → List ℕ → Option ℕ → CommandValue
-headed (class ∷ ins ∷ p1 ∷ p2 ∷ rest) body le = record { class = class; ins = ins; p1 = p1; p2 = p2; body = body; le = le }
-headed _ body le = record { class = 0; ins = 0; p1 = 0; p2 = 0; body = body; le = le }
+-- the Le that stands last, where there is one; two bytes and more are none
+abbrev pub read_le : List ℕ → Option (Option ℕ)
+read_le [] = Some None
+read_le (b ∷ []) = Some (Some (le_of_byte b))
+read_le (b ∷ d ∷ bytes) = None
 
-abbrev pub bad_length : ℕ → ℕ → Result CommandValue ApduError
-bad_length lc len = Err (BadLength lc len)
+abbrev pub with_last_le : CommandValue → ApduError → Option (Option ℕ) → Result CommandValue ApduError
+with_last_le c error None = Err error
+with_last_le c error (Some le) = Ok (record c { le = le })
 
--- what stands behind Lc: the body alone, or the body and Le
-abbrev pub with_body : List ℕ → ℕ → List ℕ → Result CommandValue ApduError
-with_body header lc rest =
-    if lc == 0 then bad_length lc (5 + length rest)
-    else if length rest == lc then Ok (headed header rest None)
-    else if length rest == lc + 1 then Ok (headed header (take lc rest) (last_le (drop lc rest)))
-    else bad_length lc (5 + length rest)
-  where
-    last_le : List ℕ → Option ℕ
-    last_le [] = None
-    last_le (b ∷ bytes) = Some (le_of_byte b)
+-- Lc, and behind it the body and perhaps Le
+abbrev pub read_body : CommandValue → ℕ → List ℕ → Result CommandValue ApduError
+read_body c lc rest =
+    if (lc == 0) || nat_lt (length rest) lc then Err (BadLength lc (5 + length rest))
+    else with_last_le (record c { body = take lc rest }) (BadLength lc (5 + length rest)) (read_le (drop lc rest))
 
--- nothing behind the header; Le; or Lc and more
-abbrev pub behind_header : List ℕ → List ℕ → Result CommandValue ApduError
-behind_header header [] = Ok (headed header [] None)
-behind_header header (le ∷ []) = Ok (headed header [] (Some (le_of_byte le)))
-behind_header header (lc ∷ b ∷ rest) = with_body header lc (b ∷ rest)
+-- behind the header stands nothing, or Le, or Lc and more
+abbrev pub read_behind : CommandValue → List ℕ → Result CommandValue ApduError
+read_behind c [] = Ok c
+read_behind c (le ∷ []) = Ok (with_le (le_of_byte le) c)
+read_behind c (lc ∷ b ∷ rest) = read_body c lc (b ∷ rest)
 
 abbrev pub read_command : List ℕ → Result CommandValue ApduError
-read_command bytes = if nat_lt (length bytes) 4 then Err (TooShort (length bytes)) else behind_header (take 4 bytes) (drop 4 bytes)
+read_command [] = Err (TooShort 0)
+read_command (class ∷ []) = Err (TooShort 1)
+read_command (class ∷ ins ∷ []) = Err (TooShort 2)
+read_command (class ∷ ins ∷ p1 ∷ []) = Err (TooShort 3)
+read_command (class ∷ ins ∷ p1 ∷ p2 ∷ rest) = read_behind (with_class class (command ins p1 p2 [] None)) rest
 
 abbrev pub word_of : List ℕ → ℕ
 word_of [] = 0

@@ -10,7 +10,7 @@ pub struct ReaderSource<R> {
     reader: R,
     ended: bool,
     given: u64,
-    faults: u64,
+    pub(crate) faults: u64,
 }
 
 impl<R> ReaderSource<R> {
@@ -49,8 +49,8 @@ impl<R: Read> Source for ReaderSource<R> {
 /// A sink into a writer, such as standard output.
 #[derive(Drop)]
 pub struct WriterSink<W> {
-    writer: W,
-    faults: u64,
+    pub(crate) writer: W,
+    pub(crate) faults: u64,
 }
 
 impl<W> WriterSink<W> {

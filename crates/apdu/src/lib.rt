@@ -26,3 +26,6 @@ pub use sequence::Sequence;
 pub use status::Sw;
 pub use stream::{Failed, Sink, Source};
 pub use texts::{Bytes, Text};
+
+#[cfg(test)]
+mod tests;

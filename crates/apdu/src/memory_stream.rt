@@ -1,6 +1,7 @@
 // A source and a sink in memory, some calls of which fail as planned.
-ghost use Rattle.std.specs.Prelude.{◌≡◌, ◌≤◌, ◌<◌, ◌+◌, ◌-◌, ◌^◌, min, ◌==◌, ◌++◌, [], length, is_err, IfOk, OnOk, OnErr, Some, false};
+ghost use Rattle.std.specs.Prelude.{◌≡◌, ◌≤◌, ◌<◌, ◌+◌, ◌-◌, ◌^◌, min, ◌==◌, [], length, is_err, IsErr, IsTrue, IfOk, OnOk, OnErr, Some, false};
 ghost use Rattle.apdu.specs.Stream.{HasCause, Reads, Appends, AppendsPart};
+ghost use Rattle.apdu.specs.Words.{is_one_of};
 
 use crate::{Failed, Sink, Source};
 use std::alloc::Global;
@@ -52,7 +53,18 @@ impl Source for MemorySource {
 
     ghost faults = { λ s. s.faults };
 
-    fn read(&mut self, into: &mut [u8]) -> Result<usize, Failed> {
+    fn read(&mut self, into: &mut [u8]) -> Result<usize, Failed>
+        ensures room { IfOk result (λ n. n ≤ length into.new) }
+        ensures bytes { IfOk result (λ n. Reads (Some self.old.left) (Some self.new.left) n into.new) }
+        ensures ended { IfOk result (λ n. 0 < length into.new → self.new.ended ≡ (n == 0)) }
+        ensures given { IfOk result (λ n. min self.new.given (2 ^ 64 - 1) ≡ min (min self.old.given (2 ^ 64 - 1) + n) (2 ^ 64 - 1)) }
+        ensures cause { HasCause self.old.faults self.new.faults result }
+        ensures fails { is_err result ≡ is_one_of self.new.calls self.old.failing }
+        ensures counts { self.new.calls ≡ min (self.old.calls + 1) (2 ^ 64 - 1) }
+        ensures plan { self.new.failing ≡ self.old.failing }
+        ensures no_fault { OnOk result (self.new.faults ≡ self.old.faults) }
+        ensures kept { OnErr result (self.new.left ≡ self.old.left) }
+    {
         self.calls = self.calls.saturating_add(1);
         if self.failing.contains(&self.calls) {
             self.faults = self.faults.saturating_add(1);
@@ -110,7 +122,16 @@ impl Sink for MemorySink {
 
     ghost faults = { λ s. s.faults };
 
-    fn write(&mut self, piece: &[u8]) -> Result<(), Failed> {
+    fn write(&mut self, piece: &[u8]) -> Result<(), Failed>
+        ensures ok { OnOk result (Appends (Some self.old.written) (Some self.new.written) piece.now) }
+        ensures err { OnErr result (AppendsPart (Some self.old.written) (Some self.new.written) piece.now) }
+        ensures cause { HasCause self.old.faults self.new.faults result }
+        ensures fails { IsTrue (is_one_of self.new.calls self.old.failing) → IsErr result }
+        ensures counts { self.new.calls ≡ min (self.old.calls + 1) (2 ^ 64 - 1) }
+        ensures plan { self.new.failing ≡ self.old.failing }
+        ensures no_fault { OnOk result (self.new.faults ≡ self.old.faults) }
+        ensures kept { OnErr result (self.new.written ≡ self.old.written) }
+    {
         self.calls = self.calls.saturating_add(1);
         if self.failing.contains(&self.calls) || self.bytes.extend_from_slice(piece).is_err() {
             self.faults = self.faults.saturating_add(1);
