@@ -1,5 +1,6 @@
 -- Turns and operations: whose turn it is, which operation an actor is at, and what it was answered.
 use Rattle.std.specs.Prelude.{ℕ, ◌+◌, ◌==◌, ◌||◌, not, Bool, true, false, nat_lt, if◌then◌else◌, List, [], ◌∷◌, length, slice_get, Option, Some, None, option_and_then, is_some}
+use Rattle.std.specs.List.{list_all, range_with_len}
 use Rattle.card_model.specs.declared.world.WorldEvent.{WorldEvent}
 use Rattle.card_model.specs.declared.world.WorldEvent.TheVariants as world_event
 use Rattle.uicc_replay.specs.Families.{records}
@@ -96,6 +97,9 @@ operation_now s actor lines = option_and_then (operation_at s actor) (open_opera
 abbrev pub has_operations_left : Script → ℕ → List Line → Bool
 has_operations_left s actor lines = nat_lt (answered_count actor lines) (length (operations_of s actor))
 
+abbrev pub all_actors : Script → List ℕ
+all_actors s = range_with_len 1 (actor_count s)
+
 -- every actor's operations are answered
 abbrev pub all_answered : Script → List Line → Bool
-all_answered s lines = not (has_operations_left s 1 lines)
+all_answered s lines = list_all (λ a. not (has_operations_left s a lines)) (all_actors s)
