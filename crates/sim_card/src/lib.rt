@@ -2,6 +2,7 @@
 #![tactic(auto)]
 
 mod access;
+mod calls;
 mod card;
 mod channel;
 mod command;
@@ -15,6 +16,7 @@ mod select;
 mod slot;
 mod step;
 
+pub use calls::{Call, play};
 pub use slot::SimSlot;
 
 #[cfg(test)]

@@ -4,7 +4,7 @@ ghost use Rattle.apdu.specs.Values.{HasLe};
 ghost use Rattle.card_model.specs.Step.{is_served};
 ghost use Rattle.card_model.specs.Limits.{HasFittingParameters, IsFittingCard, IsFittingChange};
 
-use crate::SimSlot;
+use crate::{Call, SimSlot, play};
 use apdu::{Bytes, Command, Path, Sequence};
 use arrayvec::ArrayVec;
 use card_model::{
@@ -383,5 +383,38 @@ fn world_events(rt: HostRuntime) -> Result<(), Fail> {
     assert_eq!(rt; slot.world(&WorldEvent::Arm(0)), Err(WorldRefusal::ArmFull));
     assert!(rt; slot.world(&WorldEvent::Out).is_ok());
     assert!(rt; slot.exchange(&profile()).is_err());
+    Ok(())
+}
+
+// A slot after a card was put in, left bytes waiting, was reset and was taken out.
+fn played(alloc: Global, faults: &[Fault]) -> Result<SimSlot, Fail> {
+    let mut card = card(alloc)?;
+    card.get_response = true;
+    let mut slot = slot_of(alloc, card, faults)?;
+    play(
+        &mut slot,
+        &[
+            Call::World(WorldEvent::Insert(0)),
+            Call::Exchange(select(0x08, 0x04, &[0x2F, 0xE2])),
+            Call::Reset,
+            Call::World(WorldEvent::Out),
+        ],
+    );
+    Ok(slot)
+}
+
+#[test]
+fn calls_in_order(rt: HostRuntime) -> Result<(), Fail> {
+    let alloc = rt.alloc();
+    let mut slot = played(alloc, &[])?;
+    let card = slot.state().cards.get(0).ok_or("a card")?;
+    assert!(rt; card.waiting.is_none());
+    assert!(rt; slot.state().inside.is_none());
+    assert!(rt; slot.exchange(&profile()).is_err());
+    let failed_reset = Fault { at: 2, acted: true };
+    let slot = played(alloc, &[failed_reset])?;
+    let card = slot.state().cards.get(0).ok_or("a card")?;
+    assert!(rt; card.waiting.is_some());
+    assert!(rt; slot.state().inside.is_none());
     Ok(())
 }
