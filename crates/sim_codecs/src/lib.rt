@@ -3,13 +3,15 @@
 #![tactic(auto)]
 
 mod admin;
+mod applications;
 mod digits;
 mod error;
 mod names;
 mod values;
 
 pub use admin::ad;
+pub use applications::dir_row;
 pub use digits::{iccid, imsi};
 pub use error::FieldError;
 pub use names::spn;
-pub use values::{Ad, Spn};
+pub use values::{Ad, AppRow, Spn};

@@ -1,6 +1,6 @@
 // What fields hold.
 
-use apdu::Text;
+use apdu::{Bytes, Text};
 
 /// The name of the service provider, EF_SPN.
 #[derive(Drop)]
@@ -17,4 +17,12 @@ pub struct Ad {
     pub mode: u8,
     /// How many digits of the network's code the IMSI has, two or three, where the card tells it.
     pub mnc: Option<u8>,
+}
+
+/// An application of a card, a row of EF_DIR.
+#[derive(Drop)]
+pub struct AppRow {
+    pub aid: Bytes,
+    /// The label as the card writes it, which is empty where it has none.
+    pub label: Bytes,
 }
