@@ -1,5 +1,5 @@
 -- Digits put at the end of an empty text are the text.
-use Rattle.std.proofs.Common.{◌≡◌, ℕ, List, [], Option, Some, None, Result, Ok, Err, refl, sym, ap, ◌∙◌}
+use Rattle.std.proofs.Common.{◌≡◌, ℕ, List, [], Option, None, Result, Ok, Err, refl, sym, ap, ◌∙◌}
 use Rattle.sim_codecs.specs.Digits.{onto, ends_at}
 
 onto_nothing : (r : Result (List ℕ) ℕ) → onto [] r ≡ r

@@ -40,7 +40,7 @@ imsi_from even at b (c ∷ bytes) = digit_at (high_half b) at (digit_at (low_hal
 abbrev pub imsi_by_parity : ℕ → ℕ → List ℕ → Result (List ℕ) ℕ
 imsi_by_parity count b bytes =
     if not (low_half b == 1 || low_half b == 9) then Err 1
-    else if nat_lt (length bytes + 1) count then Err (length bytes + 2)
+    else if nat_lt (length bytes + 2) (count + 1) then Err (length bytes + 2)
     else imsi_from (low_half b == 1) 1 b (take (count - 1) bytes)
 
 -- the bytes behind the first, which says how many of them are read

@@ -1,12 +1,12 @@
 // The applications of a card.
-ghost use Rattle.std.specs.Prelude.{◌≡◌, ◌==◌, IfOk};
+ghost use Rattle.std.specs.Prelude.{◌≡◌, ◌==◌};
 ghost use Rattle.std.specs.Option.{option_copied};
 ghost use Rattle.tlv.specs.Objects.{ber_parts};
 ghost use Rattle.sim_codecs.specs.Applications.{dir_row_of, template_row, row_of, objects_read, no_objects, kept, first_of};
 ghost use Rattle.sim_codecs.specs.Reads.{ReadsAs};
 
 use crate::{AppRow, FieldError};
-use apdu::{Bytes, Memory};
+use apdu::Bytes;
 use std::alloc::Global;
 use std::marker::Model;
 use tlv::{BerReader, TlvError};
@@ -32,15 +32,10 @@ pub fn dir_row(alloc: Global, bytes: &[u8]) -> Result<Option<AppRow>, FieldError
 fn template_row(alloc: Global, template: &[u8]) -> Result<Option<AppRow>, FieldError>
     ensures { ReadsAs (template_row (ber_parts template.now)) result }
 {
-    match FoundObjects::of(template) {
-        Ok(
-            FoundObjects {
-                aid: Some(aid),
-                label,
-            },
-        ) => row_of(alloc, aid, label.unwrap_or(&[])),
-        _ => Err(FieldError::Malformed { at: 0 }),
-    }
+    let malformed = FieldError::Malformed { at: 0 };
+    let objects = FoundObjects::of(template).map_err(|_| malformed)?;
+    let aid = objects.aid.ok_or(malformed)?;
+    row_of(alloc, aid, objects.label.unwrap_or(&[]))
 }
 
 /// The row of an identifier, which has 1 to 16 bytes, and a label.
@@ -50,19 +45,10 @@ fn row_of(alloc: Global, aid: &[u8], label: &[u8]) -> Result<Option<AppRow>, Fie
     if aid.is_empty() || aid.len() > 16 {
         return Err(FieldError::Malformed { at: 0 });
     }
-    match copied(alloc, aid, label) {
-        Ok(row) => Ok(Some(row)),
-        Err(_) => Err(FieldError::Memory),
-    }
-}
-
-fn copied(alloc: Global, aid: &[u8], label: &[u8]) -> Result<AppRow, Memory>
-    ensures { IfOk result (λ row. (row.aid ≡ aid.now) × (row.label ≡ label.now)) }
-{
-    Ok(AppRow {
+    Ok(Some(AppRow {
         aid: Bytes::from_slice(alloc, aid)?,
         label: Bytes::from_slice(alloc, label)?,
-    })
+    }))
 }
 
 /// The values of the objects of an application template, each of the first object of its tag.

@@ -22,10 +22,9 @@ fn iccid_digits(alloc: Global, bytes: &[u8]) -> Result<Text, FieldError>
     ensures { ReadsAs (iccid_from 0 bytes.now) result }
 {
     let mut out = String::new(alloc);
-    match put_iccid(&mut out, bytes, 0) {
-        Ok(None) => Ok(Text::from_string(out)),
-        Ok(Some(at)) => Err(FieldError::Malformed { at }),
-        Err(_) => Err(FieldError::Memory),
+    match put_iccid(&mut out, bytes, 0)? {
+        None => Ok(Text::from_string(out)),
+        Some(at) => Err(FieldError::Malformed { at }),
     }
 }
 
@@ -82,10 +81,9 @@ fn imsi_digits(alloc: Global, even: bool, byte: u8, rest: &[u8]) -> Result<Text,
     ensures { ReadsAs (imsi_from even 1 byte rest.now) result }
 {
     let mut out = String::new(alloc);
-    match put_imsi(&mut out, even, byte, rest, 1) {
-        Ok(None) => Ok(Text::from_string(out)),
-        Ok(Some(at)) => Err(FieldError::Malformed { at }),
-        Err(_) => Err(FieldError::Memory),
+    match put_imsi(&mut out, even, byte, rest, 1)? {
+        None => Ok(Text::from_string(out)),
+        Some(at) => Err(FieldError::Malformed { at }),
     }
 }
 

@@ -1,3 +1,5 @@
+use apdu::Memory;
+
 /// Why a field cannot be read.
 #[derive(Clone, Copy, Debug, PartialEq, Eq)]
 pub enum FieldError {
@@ -5,4 +7,15 @@ pub enum FieldError {
     Malformed { at: usize },
     /// Memory ran out.
     Memory,
+}
+
+impl From<Memory> for FieldError {
+    ghost use Rattle.std.specs.Prelude.{◌≡◌};
+    ghost use Rattle.sim_codecs.specs.declared.error.FieldError.{FieldError};
+
+    ghost from_gives = { λ _ error. error ≡ FieldError.Memory };
+
+    fn from(_: Memory) -> Self {
+        FieldError::Memory
+    }
 }

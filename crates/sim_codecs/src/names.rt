@@ -13,11 +13,8 @@ pub fn spn(alloc: Global, bytes: &[u8]) -> Result<Spn, FieldError>
     if bytes.len() < 17 {
         return Err(FieldError::Malformed { at: bytes.len() });
     }
-    match decode_alpha(alloc, &bytes[1..17]) {
-        Ok(name) => Ok(Spn {
-            show: bytes[0],
-            name,
-        }),
-        Err(_) => Err(FieldError::Memory),
-    }
+    Ok(Spn {
+        show: bytes[0],
+        name: decode_alpha(alloc, &bytes[1..17])?,
+    })
 }
