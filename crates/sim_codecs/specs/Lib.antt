@@ -1,0 +1,4 @@
+pub mod Applications
+pub mod Digits
+pub mod Fields
+pub mod Reads
