@@ -1,7 +1,6 @@
 pub mod Counts
 pub mod Endings
 pub mod Fits
-pub mod IccidDigits
 pub mod Pasts
 pub mod Reading
 pub mod Steps

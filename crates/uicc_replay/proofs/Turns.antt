@@ -18,7 +18,7 @@ use Rattle.uicc_replay.specs.declared.report.Answer.TheVariants as answers
 use Rattle.uicc_replay.specs.declared.run.Stage.{Stage}
 use Rattle.uicc_replay.specs.declared.run.Stage.TheVariants.{Empty, Inserted, Profiled, Started, Loading, Done}
 use Rattle.uicc_replay.specs.Families.{records, iccid_path}
-use Rattle.uicc_replay.specs.Iccid.{iccid_of}
+use Rattle.sim_codecs.specs.Digits.{iccid_of}
 use Rattle.uicc_replay.specs.History.{card_of, first_world, counted}
 use Rattle.uicc_replay.specs.Legal.{are_legal_lines, is_legal_end}
 use Rattle.uicc_replay.specs.Script.{FitsFile}

@@ -1,7 +1,5 @@
 pub mod Script
 pub mod Families
-pub mod Iccid
-pub mod Field
 pub mod History
 pub mod Turns
 pub mod Chains

@@ -6,7 +6,7 @@ use Rattle.fcp.specs.declared.rows.FileKind.TheVariants.{Transparent, Linear, Di
 use Rattle.fcp.specs.Content.{Content, first_row}
 use Rattle.card_model.specs.declared.world.World.{World}
 use Rattle.uicc_replay.specs.Families.{iccid_path}
-use Rattle.uicc_replay.specs.Iccid.{iccid_of}
+use Rattle.sim_codecs.specs.Digits.{iccid_of}
 use Rattle.uicc_replay.specs.History.{content_in}
 
 abbrev pub quoted_text : List ℕ → List ℕ

@@ -1,7 +1,6 @@
 //! Replays a script of a card and its users through the framework, and writes the report.
 #![tactic(auto)]
 
-mod iccid;
 mod law;
 mod report;
 mod run;

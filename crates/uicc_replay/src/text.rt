@@ -1,15 +1,15 @@
 // The text of a report.
 ghost use Rattle.std.specs.Prelude.{◌≡◌, ◌++◌, reverse, decimal, string_bytes, OnOk, IfOk};
 ghost use Rattle.hex.specs.Hex.{encode_upper};
-ghost use Rattle.uicc_replay.specs.Iccid.{iccid_of};
+ghost use Rattle.sim_codecs.specs.Digits.{iccid_of};
 ghost use Rattle.uicc_replay.specs.Shown.{quoted_text, bad_text, digits_text, records_text};
 ghost use Rattle.uicc_replay.specs.Texts.{answer_text, event_text, family_text, acted_text, command_text, response_text, snapshot_text, event_words, other_words, line_text, lines_text, others_text, schedule_text, script_head, script_middle, script_text, mode_text, report_text};
 
-use crate::iccid::{FieldError, iccid};
 use crate::report::{Answer, Line, Mode, Report};
 use crate::script::Script;
 use apdu::{Command, Memory, Response, Text};
 use card_model::WorldEvent;
+use sim_codecs::{FieldError, iccid};
 use std::alloc::Global;
 
 fn put(out: &mut String, text: &str) -> Result<(), Memory>

@@ -1,5 +1,5 @@
 use Rattle.std.proofs.Common.{ℕ, List, refl, ap, ◌∙◌}
-use Rattle.uicc_replay.specs.Iccid.{iccid_of}
+use Rattle.sim_codecs.specs.Digits.{iccid_of}
 use Rattle.uicc_replay.specs.Shown.{records_text, digits_text}
 use Rattle.uicc_replay.proofs.Turns.{to_done}
 use Rattle.uicc_replay.proofs.run.Run.publish.Goals as goal
