@@ -13,7 +13,7 @@ use Rattle.uicc_replay.specs.declared.report.Answer.{Answer}
 use Rattle.uicc_replay.specs.declared.report.Answer.TheVariants as answer
 use Rattle.uicc_replay.specs.Families.{records}
 use Rattle.uicc_replay.specs.History.{counted, event_count, world_after}
-use Rattle.uicc_replay.specs.Turns.{open_operation, turn_actor, published_in_turn}
+use Rattle.uicc_replay.specs.Turns.{mark_count, scheduled_actor, open_operation, turn_actor, published_in_turn}
 use Rattle.uicc_replay.specs.Chains.{Final, final, is_unfinished}
 use Rattle.uicc_replay.specs.Open.{is_wanted, makes_stale, stale_since, unless_settled, settled_since, is_startup_step, makes_stale_by, owes_response_after}
 use Rattle.uicc_replay.specs.Shown.{shown}
@@ -22,6 +22,9 @@ use Rattle.uicc_replay.specs.Run.{Facts, InTurn, marked, Past, Rests}
 
 same_number : (n : ℕ) → nat_eq n n ≡ true
 same_number n = grind arith
+
+same_as : (m n : ℕ) → m ≡ n → nat_eq m n ≡ true
+same_as m n h = grind (arith, h)
 
 pub same_list : (xs : List ℕ) → same_bytes xs xs ≡ true
 same_list [] = refl
@@ -60,9 +63,9 @@ lacks_none s lines facts now h rests = lacks_by s lines (turn_actor lines) (λ a
 
 -- ---- lines that are no event
 
-pub past_turn : (s : Script) (lines : List Line) (facts : Facts) (now : InTurn) (a : ℕ) → Past s lines facts now → Rests facts now → Past s (line.Turn a ∷ lines) facts (marked a)
-past_turn s lines facts now a h rests = record {
-  legal = rw (lacks_none s lines facts now h rests) h.legal;
+pub past_turn : (s : Script) (lines : List Line) (facts : Facts) (now : InTurn) (a : ℕ) → Past s lines facts now → Rests facts now → a ≡ scheduled_actor s (mark_count lines) → Past s (line.Turn a ∷ lines) facts (marked a)
+past_turn s lines facts now a h rests next = record {
+  legal = rw (lacks_none s lines facts now h rests, same_as a (scheduled_actor s (mark_count lines)) next) h.legal;
   world = h.world;
   events = h.events;
   epoch = h.epoch;

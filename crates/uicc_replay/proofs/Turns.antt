@@ -1,7 +1,8 @@
 -- What a turn does to a run that stands.
-use Rattle.std.proofs.Common.{◌≡◌, ◌≤◌, ◌<◌, ℕ, ◌+◌, ◌&&◌, Bool, true, false, List, [], ◌∷◌, length, Option, Some, None, Result, Ok, Err, OnOk, refl, sym, ap, ◌∙◌, subst, arith, inl, inr, is_some, lit≤}
+use Rattle.std.proofs.Common.{◌≡◌, ◌≤◌, ◌<◌, ℕ, ◌+◌, ◌-◌, ◌%◌, ◌&&◌, Bool, true, false, List, [], ◌∷◌, length, Option, Some, None, Result, Ok, Err, OnOk, refl, sym, ap, ◌∙◌, subst, arith, inl, inr, is_some, lit≤}
 use Rattle.std.specs.Prelude.{MatchBool}
-use Rattle.std.proofs.lemmas.Option.{same_Some}
+use Rattle.std.proofs.lemmas.Option.{same_Some, slice_get_past}
+use Rattle.std.specs.Prelude.{slice_get}
 use Rattle.apdu.specs.Values.{CommandValue, ResponseValue}
 use Rattle.apdu.specs.Apdu.{refusal}
 use Rattle.fcp.specs.Control.{write_fcp}
@@ -12,6 +13,7 @@ use Rattle.card_model.specs.Step.{step, card_inside, after_event, answer}
 use Rattle.card_model.specs.Slot.{Happens, IsRefused, IsResultOf, refusal_of}
 use Rattle.sim_card.specs.Sim.{SimValue, empty_slot}
 use Rattle.uicc_replay.specs.declared.script.Script.{Script}
+use Rattle.uicc_replay.specs.declared.report.Mode.TheVariants.{Replay}
 use Rattle.uicc_replay.specs.declared.report.Line.{Line}
 use Rattle.uicc_replay.specs.declared.report.Line.TheVariants as line
 use Rattle.uicc_replay.specs.declared.report.Answer.TheVariants as answers
@@ -21,17 +23,18 @@ use Rattle.uicc_replay.specs.Families.{records, iccid_path}
 use Rattle.sim_codecs.specs.Digits.{iccid_of}
 use Rattle.uicc_replay.specs.History.{card_of, first_world, counted}
 use Rattle.uicc_replay.specs.Legal.{are_legal_lines, is_legal_end}
+use Rattle.uicc_replay.specs.Turns.{mark_count, scheduled_actor, scheduled_or}
 use Rattle.uicc_replay.specs.Script.{FitsFile}
 use Rattle.uicc_replay.specs.Shown.{shown, records_text, digits_text}
-use Rattle.uicc_replay.specs.Run.{Facts, InTurn, marked, Past, StandsIn, Stands, Rests, Asks, IsStage, facts_at, found_at, world_at, inside_world, size_in, body_at, left, moves, is_done}
+use Rattle.uicc_replay.specs.Run.{Facts, InTurn, marked, Past, StandsIn, Stands, Rests, Asks, IsStage, facts_at, found_at, world_at, inside_world, size_in, body_at, left, moves, is_done, IsRound}
 use Rattle.uicc_replay.proofs.Pasts.{IsPlain, starts, lacks_none, past_turn, past_begin_insert, past_begin_load, past_exchange, past_insert, past_moved, past_published, past_loaded}
 use Rattle.uicc_replay.proofs.Steps.{profile_command, step_profile, usim_command, step_usim, select_command, iccid_parameters, step_select, size_read, read_command, step_read, step_missing, event_insert}
 
 -- ---- a mark
 
 pub to_marked : (s : Script) (slot : SimValue) (before after : List Line) (n : ℕ) (found : Option (List ℕ)) (stage : Stage) (a : ℕ)
-    → Stands s slot before n found stage → after ≡ line.Turn a ∷ before → StandsIn s slot after n found stage (marked a)
-to_marked s slot before after n found stage a h is = record {
+    → Stands s slot before n found stage → a ≡ scheduled_actor s (mark_count before) → after ≡ line.Turn a ∷ before → StandsIn s slot after n found stage (marked a)
+to_marked s slot before after n found stage a h next is = record {
   fits = h.within.fits;
   some = h.within.some;
   few = h.within.few;
@@ -39,7 +42,7 @@ to_marked s slot before after n found stage a h is = record {
   faults = h.within.faults;
   count = h.within.count;
   content = h.within.content;
-  past = subst (λ (ls : List Line). Past s ls (facts_at s stage) (marked a)) (sym is) (past_turn s before (facts_at s stage) h.now a h.within.past h.rests);
+  past = subst (λ (ls : List Line). Past s ls (facts_at s stage) (marked a)) (sym is) (past_turn s before (facts_at s stage) h.now a h.within.past h.rests next);
 }
 
 rests_at : (s : Script) (stage : Stage) (a : ℕ) → Rests (facts_at s stage) (marked a)
@@ -285,15 +288,45 @@ nearer Started mid new going first second = by_first Started mid new refl first 
 nearer (Loading n) mid new going first second = by_first (Loading n) mid new refl first second
 nearer Done mid new going first second = absurd (cc)
 
+-- ---- whose turn it is
+
+scheduled : (s : Script) (n a : ℕ) → slice_get s.schedule n ≡ Some a → a ≡ scheduled_actor s n
+scheduled s n a h = rw h refl
+
+pub from_schedule : (s : Script) (n m a : ℕ) → slice_get s.schedule n ≡ Some a → m ≡ n → a ≡ scheduled_actor s m
+from_schedule s n m a h same = subst (λ (k : ℕ). a ≡ scheduled_actor s k) (sym same) (scheduled s n a h)
+
+in_round : (s : Script) (n : ℕ) → length s.schedule ≤ n → (n - length s.schedule) % 2 ≡ scheduled_actor s n
+in_round s n h = rw (slice_get_past s.schedule n h) refl
+
+pub round_first : (s : Script) (n : ℕ) → IsRound s n → 0 ≡ scheduled_actor s n
+round_first s n h = sym h.even ∙ in_round s n h.behind
+
+pub round_second : (s : Script) (n m : ℕ) → IsRound s n → m ≡ n + 1 → 1 ≡ scheduled_actor s m
+round_second s n m h is =
+    let behind : length s.schedule ≤ n = h.behind in
+    let even : (n - length s.schedule) % 2 ≡ 0 = h.even in
+    let odd : 1 ≡ (m - length s.schedule) % 2 = omega arith in
+    odd ∙ in_round s m (omega arith)
+
+pub round_again : (s : Script) (n m k : ℕ) → IsRound s n → m ≡ n + 1 → k ≡ m + 1 → IsRound s k
+round_again s n m k h is again =
+    let behind : length s.schedule ≤ n = h.behind in
+    let even : (n - length s.schedule) % 2 ≡ 0 = h.even in
+    record { behind = omega arith; even = omega arith }
+
+pub round_begins : (s : Script) (n : ℕ) → n ≡ length s.schedule → IsRound s n
+round_begins s n is = record { behind = omega arith; even = omega arith }
+
 -- ---- the end
 
-finished : (s : Script) (slot : SimValue) (lines : List Line) (n : ℕ) (found : Option (List ℕ)) → Stands s slot lines n found Done → (are_legal_lines s lines && is_legal_end s lines) ≡ true
+finished : (s : Script) (slot : SimValue) (lines : List Line) (n : ℕ) (found : Option (List ℕ)) → Stands s slot lines n found Done → (are_legal_lines s Replay lines && is_legal_end s lines) ≡ true
 finished s slot lines n found h =
     let past = h.within.past in
     rw (past.legal, lacks_none s lines (facts_at s Done) h.now past h.rests, past.answered, past.reset, past.living, past.startup, past.response, past.announced, past.stale 0, past.stale 1, past.stale 2) refl
 
 pub to_legal : (s : Script) (slot : SimValue) (lines : List Line) (n : ℕ) (found : Option (List ℕ)) (stage : Stage) → Stands s slot lines n found stage → is_done stage ≡ true
-    → (are_legal_lines s lines && is_legal_end s lines) ≡ true
+    → (are_legal_lines s Replay lines && is_legal_end s lines) ≡ true
 to_legal s slot lines n found Empty h done = absurd (cc)
 to_legal s slot lines n found Inserted h done = absurd (cc)
 to_legal s slot lines n found Profiled h done = absurd (cc)

@@ -1,6 +1,6 @@
 -- Whether a report is legal: no line, and not its end, fails a test. There is one test for each rule; it looks at a line and at those
 -- before it, newest first.
-use Rattle.std.specs.Prelude.{ℕ, ◌+◌, ◌==◌, ◌&&◌, not, Bool, true, false, if◌then◌else◌, List, [], ◌∷◌, Option, Some, None, option_map, option_and_then, is_some}
+use Rattle.std.specs.Prelude.{ℕ, ◌+◌, ◌==◌, ◌&&◌, not, Bool, true, false, nat_le, if◌then◌else◌, List, [], ◌∷◌, Option, Some, None, option_map, option_and_then, is_some}
 use Rattle.apdu.specs.Values.{CommandValue, ResponseValue}
 use Rattle.apdu.specs.Words.{has_value, same_bytes, same_number}
 use Rattle.apdu.specs.Apdu.{same_response}
@@ -11,12 +11,14 @@ use Rattle.card_model.specs.Step.{step, card_inside}
 use Rattle.uicc_replay.specs.declared.script.Script.{Script}
 use Rattle.uicc_replay.specs.declared.report.Answer.{Answer}
 use Rattle.uicc_replay.specs.declared.report.Answer.TheVariants as answer
+use Rattle.uicc_replay.specs.declared.report.Mode.{Mode}
+use Rattle.uicc_replay.specs.declared.report.Mode.TheVariants.{Replay, Run}
 use Rattle.uicc_replay.specs.declared.report.Line.{Line}
 use Rattle.uicc_replay.specs.declared.report.Line.TheVariants as line
 use Rattle.uicc_replay.specs.declared.report.Report.{Report}
 use Rattle.uicc_replay.specs.Families.{records}
 use Rattle.uicc_replay.specs.History.{world_after, event_count, publication_count, epoch, epoch_lives}
-use Rattle.uicc_replay.specs.Turns.{Operation, insert, load, turn_actor, published_in_turn, event_in_turn, open_operation, operation_now}
+use Rattle.uicc_replay.specs.Turns.{Operation, insert, load, actor_count, mark_count, scheduled_actor, turn_actor, published_in_turn, event_in_turn, open_operation, operation_now}
 use Rattle.uicc_replay.specs.Open.{is_finished}
 use Rattle.uicc_replay.specs.Shown.{shown}
 
@@ -78,18 +80,28 @@ has_right_answer s (line.Answered a i given) earlier = is_answer_right s a i giv
 has_right_answer s (line.Turn a) earlier = not (lacks_answer s earlier)
 has_right_answer s l earlier = true
 
+-- ---- turns: in mode replay they follow the schedule and then go round; in mode run any actor may take one
+
+abbrev pub is_actor_right : Script → Mode → ℕ → List Line → Bool
+is_actor_right s Replay a earlier = a == scheduled_actor s (mark_count earlier)
+is_actor_right s Run a earlier = nat_le a (actor_count s)
+
+abbrev pub has_right_actor : Script → Mode → Line → List Line → Bool
+has_right_actor s m (line.Turn a) earlier = is_actor_right s m a earlier
+has_right_actor s m l earlier = true
+
 -- ---- all rules
 
-abbrev pub is_legal_line : Script → Line → List Line → Bool
-is_legal_line s l earlier = has_right_response s l earlier && has_right_snapshot s l earlier && has_right_answer s l earlier
+abbrev pub is_legal_line : Script → Mode → Line → List Line → Bool
+is_legal_line s m l earlier = has_right_response s l earlier && has_right_snapshot s l earlier && has_right_answer s l earlier && has_right_actor s m l earlier
 
-abbrev pub are_legal_lines : Script → List Line → Bool
-are_legal_lines s [] = true
-are_legal_lines s (l ∷ earlier) = is_legal_line s l earlier && are_legal_lines s earlier
+abbrev pub are_legal_lines : Script → Mode → List Line → Bool
+are_legal_lines s m [] = true
+are_legal_lines s m (l ∷ earlier) = is_legal_line s m l earlier && are_legal_lines s m earlier
 
 -- the end ends the last turn; every operation is answered, and nothing is open
 abbrev pub is_legal_end : Script → List Line → Bool
 is_legal_end s lines = not (lacks_answer s lines) && is_finished s lines
 
 abbrev pub legal : Report → Bool
-legal r = are_legal_lines r.script r.lines && is_legal_end r.script r.lines
+legal r = are_legal_lines r.script r.mode r.lines && is_legal_end r.script r.lines

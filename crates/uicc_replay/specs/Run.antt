@@ -1,5 +1,5 @@
 -- Where a run of a script stands: its slot, its lines and its stage agree.
-use Rattle.std.specs.Prelude.{◌≡◌, ◌≤◌, ◌<◌, ◌-◌, ◌⊎◌, MatchBool, ℕ, ◌+◌, ◌==◌, Bool, true, false, if◌then◌else◌, List, [], ◌∷◌, length, Option, Some, None, Result, Ok, Err}
+use Rattle.std.specs.Prelude.{◌≡◌, ◌≤◌, ◌<◌, ◌-◌, ◌%◌, ◌⊎◌, MatchBool, ℕ, ◌+◌, ◌==◌, Bool, true, false, if◌then◌else◌, List, [], ◌∷◌, length, Option, Some, None, Result, Ok, Err}
 use Rattle.apdu.specs.Values.{CommandValue, ResponseValue}
 use Rattle.fcp.specs.declared.control.Fcp.{Fcp}
 use Rattle.fcp.specs.declared.control.FcpError.{FcpError}
@@ -11,6 +11,7 @@ use Rattle.card_model.specs.declared.world.WorldEvent.TheVariants.{Insert}
 use Rattle.card_model.specs.Step.{step}
 use Rattle.sim_card.specs.Sim.{SimValue}
 use Rattle.uicc_replay.specs.declared.script.Script.{Script}
+use Rattle.uicc_replay.specs.declared.report.Mode.TheVariants.{Replay}
 use Rattle.uicc_replay.specs.declared.report.Line.{Line}
 use Rattle.uicc_replay.specs.declared.report.Line.TheVariants as line
 use Rattle.uicc_replay.specs.declared.run.Stage.{Stage}
@@ -18,7 +19,7 @@ use Rattle.uicc_replay.specs.declared.run.Stage.TheVariants.{Empty, Inserted, Pr
 use Rattle.uicc_replay.specs.declared.run.Run.{Run}
 use Rattle.uicc_replay.specs.Families.{records, iccid_path}
 use Rattle.uicc_replay.specs.History.{card_of, first_world, world_after, event_count, publication_count, epoch, epoch_lives, owes_reset}
-use Rattle.uicc_replay.specs.Turns.{turn_actor, event_in_turn, published_in_turn, open_operation, answered_count}
+use Rattle.uicc_replay.specs.Turns.{mark_count, scheduled_actor, turn_actor, event_in_turn, published_in_turn, open_operation, answered_count}
 use Rattle.uicc_replay.specs.Chains.{is_unfinished}
 use Rattle.uicc_replay.specs.Open.{startup_steps, owes_response, announced, is_wanted, stale_since}
 use Rattle.uicc_replay.specs.Legal.{are_legal_lines}
@@ -66,7 +67,7 @@ marked a = record { actor = Some a; event = None; publication = None }
 
 -- the lines are legal and have these facts; nothing is owed, announced or stale, and actor 1 alone has operations
 pub record Past (s : Script) (lines : List Line) (facts : Facts) (now : InTurn) : Type 0 where
-  pub legal : are_legal_lines s lines ≡ true
+  pub legal : are_legal_lines s Replay lines ≡ true
   pub world : world_after s lines ≡ facts.world
   pub events : event_count lines ≡ facts.events
   pub epoch : epoch lines ≡ facts.epoch
@@ -142,10 +143,23 @@ pub record IsMarked (r : Run) (reached : Stage) (actor : ℕ) : Type 0 where
   pub within : StandsIn r.script r.slot r.lines r.events r.iccid_file reached (marked actor)
   pub stage : r.stage ≡ reached
 
--- a call leaves a run of the same script that stands, at this stage
+-- a turn of this actor begins, and the run is at the stage where it was
+pub record Marks (old new : Run) (actor : ℕ) : Type 0 where
+  pub within : IsMarked new old.stage actor
+  pub script : new.script ≡ old.script
+  pub marks : mark_count new.lines ≡ mark_count old.lines + 1
+
+-- the load's turn goes on, at this stage
+pub record Selects (old new : Run) (reached : Stage) : Type 0 where
+  pub within : IsMarked new reached 1
+  pub script : new.script ≡ old.script
+  pub marks : mark_count new.lines ≡ mark_count old.lines
+
+-- a call leaves a run of the same script that stands, at this stage, and begins no turn
 pub record Reaches (old new : Run) (reached : Stage) : Type 0 where
   pub standing : IsStanding new
   pub script : new.script ≡ old.script
+  pub marks : mark_count new.lines ≡ mark_count old.lines
   pub stage : new.stage ≡ reached
 
 -- ---- exchanges
@@ -195,12 +209,6 @@ moves Started actor = actor == 1
 moves (Loading n) actor = actor == 1
 moves Done actor = false
 
--- a turn leaves a run of the same script that stands, and comes nearer to the end where it moves
-pub record Turns (old new : Run) (actor : ℕ) : Type 0 where
-  pub standing : IsStanding new
-  pub script : new.script ≡ old.script
-  pub progress : MatchBool (moves old.stage actor) (left new.stage < left old.stage) (new.stage ≡ old.stage)
-
 abbrev pub is_done : Stage → Bool
 is_done Empty = false
 is_done Inserted = false
@@ -208,3 +216,23 @@ is_done Profiled = false
 is_done Started = false
 is_done (Loading n) = false
 is_done Done = true
+
+-- the turn that comes next is this actor's
+abbrev pub IsNext : Run → ℕ → Type 0
+IsNext r actor = actor ≡ scheduled_actor r.script (mark_count r.lines)
+
+-- the schedule is done, and the next turn is the framework's, which begins a round
+pub record IsRound (s : Script) (n : ℕ) : Type 0 where
+  pub behind : length s.schedule ≤ n
+  pub even : (n - length s.schedule) % 2 ≡ 0
+
+-- the run is at its end, or a round begins
+abbrev pub GoesRound : Run → Type 0
+GoesRound r = (is_done r.stage ≡ true) ⊎ IsRound r.script (mark_count r.lines)
+
+-- a turn leaves a run of the same script that stands, and comes nearer to the end where it moves
+pub record Turns (old new : Run) (actor : ℕ) : Type 0 where
+  pub standing : IsStanding new
+  pub script : new.script ≡ old.script
+  pub marks : mark_count new.lines ≡ mark_count old.lines + 1
+  pub progress : MatchBool (moves old.stage actor) (left new.stage < left old.stage) (new.stage ≡ old.stage)

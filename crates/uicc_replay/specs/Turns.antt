@@ -1,5 +1,5 @@
 -- Turns and operations: whose turn it is, which operation an actor is at, and what it was answered.
-use Rattle.std.specs.Prelude.{ℕ, ◌+◌, ◌==◌, ◌||◌, not, Bool, true, false, nat_lt, if◌then◌else◌, List, [], ◌∷◌, length, slice_get, Option, Some, None, option_and_then, is_some}
+use Rattle.std.specs.Prelude.{ℕ, ◌+◌, ◌-◌, ◌%◌, ◌==◌, ◌||◌, not, Bool, true, false, nat_lt, if◌then◌else◌, List, [], ◌∷◌, length, slice_get, Option, Some, None, option_and_then, is_some}
 use Rattle.std.specs.List.{list_all, range_with_len}
 use Rattle.card_model.specs.declared.world.WorldEvent.{WorldEvent}
 use Rattle.card_model.specs.declared.world.WorldEvent.TheVariants as world_event
@@ -41,6 +41,24 @@ turn_actor_by l before = before
 abbrev pub turn_actor : List Line → Option ℕ
 turn_actor [] = None
 turn_actor (l ∷ earlier) = turn_actor_by l (turn_actor earlier)
+
+abbrev pub is_mark : Line → Bool
+is_mark (line.Turn a) = true
+is_mark _ = false
+
+-- how many turns have begun
+abbrev pub mark_count : List Line → ℕ
+mark_count [] = 0
+mark_count (l ∷ earlier) = counted (is_mark l) (mark_count earlier)
+
+-- the actor that the schedule names, or else the one whose turn it is in the round
+abbrev pub scheduled_or : Option ℕ → ℕ → ℕ
+scheduled_or (Some actor) round = actor
+scheduled_or None round = round
+
+-- whose turn comes behind so many turns: the schedule's, and then round from actor 0 to the last
+abbrev pub scheduled_actor : Script → ℕ → ℕ
+scheduled_actor s n = scheduled_or (slice_get s.schedule n) ((n - length s.schedule) % (actor_count s + 1))
 
 -- the publication of this family in the last turn
 abbrev pub published_in_turn_by : ℕ → Line → Option ℕ → Option ℕ

@@ -6,7 +6,8 @@ ghost use Rattle.sim_card.specs.Sim.{empty_slot};
 ghost use Rattle.uicc_replay.specs.Script.{FitsFile};
 ghost use Rattle.uicc_replay.specs.History.{card_of};
 ghost use Rattle.uicc_replay.specs.Legal.{legal};
-ghost use Rattle.uicc_replay.specs.Run.{IsStanding, IsMarked, Reaches, Turns, Asks, size_in, body_at, left, is_done as is_last};
+ghost use Rattle.uicc_replay.specs.Turns.{mark_count};
+ghost use Rattle.uicc_replay.specs.Run.{IsStanding, IsMarked, IsNext, IsRound, GoesRound, Marks, Selects, Reaches, Turns, Asks, size_in, body_at, left, is_done as is_last};
 
 use crate::report::{Answer, Line, Lines, Mode, Report};
 use crate::script::Script;
@@ -187,7 +188,7 @@ impl Run {
     fn select_next(&mut self, at: u8) -> Result<(), Memory>
         requires marked { IsMarked self.old (Stage.Loading at) 1 }
         requires more { at < 7 }
-        ensures { OnOk result (IsMarked self.new (Stage.Loading (at + 1)) 1 × (self.new.script ≡ self.old.script)) }
+        ensures { OnOk result (Selects self.old self.new (Stage.Loading (at + 1))) }
     {
         let body = path_body(at);
         let command = command_of(0x00, 0xA4, 0x08, 0x04, body.as_slice(), Some(256));
@@ -227,6 +228,7 @@ impl Run {
         requires { IsMarked self.old (Stage.Loading at) 1 }
         ensures standing { OnOk result (IsStanding self.new) }
         ensures script { OnOk result (self.new.script ≡ self.old.script) }
+        ensures marks { OnOk result (mark_count self.new.lines ≡ mark_count self.old.lines) }
         ensures nearer { OnOk result (left self.new.stage < 8 - at) }
     {
         if at < 6 {
@@ -240,8 +242,9 @@ impl Run {
 
     /// A turn of the actor begins.
     fn mark(&mut self, actor: u8) -> Result<(), Memory>
-        requires { IsStanding self.old }
-        ensures { OnOk result (IsMarked self.new self.old.stage actor × (self.new.script ≡ self.old.script)) }
+        requires standing { IsStanding self.old }
+        requires next { IsNext self.old actor }
+        ensures { OnOk result (Marks self.old self.new actor) }
     {
         self.lines.push(Line::Turn { actor })?;
         Ok(())
@@ -249,7 +252,8 @@ impl Run {
 
     /// A turn of the actor, which leaves the run as it is where the actor waits or has nothing left.
     fn turn(&mut self, alloc: Global, actor: u8) -> Result<(), Memory>
-        requires { IsStanding self.old }
+        requires standing { IsStanding self.old }
+        requires next { IsNext self.old actor }
         ensures { OnOk result (Turns self.old self.new actor) }
     {
         self.mark(actor)?;
@@ -284,8 +288,10 @@ impl Run {
     fn round(&mut self, alloc: Global) -> Result<(), Memory>
         requires standing { IsStanding self.old }
         requires going { is_last self.old.stage ≡ false }
+        requires round { IsRound self.old.script (mark_count self.old.lines) }
         ensures standing { OnOk result (IsStanding self.new) }
         ensures script { OnOk result (self.new.script ≡ self.old.script) }
+        ensures round { OnOk result (GoesRound self.new) }
         ensures nearer { OnOk result (left self.new.stage < left self.old.stage) }
     {
         self.turn(alloc, 0)?;
@@ -297,17 +303,17 @@ impl Run {
 
     /// The turns of the schedule, until the run is done.
     fn by_schedule(&mut self, alloc: Global) -> Result<(), Memory>
-        requires { IsStanding self.old }
+        requires standing { IsStanding self.old }
+        requires fresh { mark_count self.old.lines ≡ 0 }
         ensures standing { OnOk result (IsStanding self.new) }
+        ensures round { OnOk result (GoesRound self.new) }
         ensures script { OnOk result (self.new.script ≡ self.old.script) }
     {
         for at in 0..self.script.schedule.len() {
-            let Some(actor) = self.script.schedule.get(at).copied() else {
-                break;
-            };
             if self.is_done() {
-                break;
+                return Ok(());
             }
+            let actor = self.script.schedule.as_slice()[at];
             self.turn(alloc, actor)?;
         }
         Ok(())
@@ -315,7 +321,8 @@ impl Run {
 
     /// Rounds until the run is done.
     fn to_the_end(&mut self, alloc: Global) -> Result<(), Memory>
-        requires { IsStanding self.old }
+        requires standing { IsStanding self.old }
+        requires round { GoesRound self.old }
         ensures standing { OnOk result (IsStanding self.new) }
         ensures done { OnOk result (is_last self.new.stage ≡ true) }
         ensures script { OnOk result (self.new.script ≡ self.old.script) }
@@ -377,6 +384,7 @@ fn begin(alloc: Global, script: Script) -> Result<Run, Memory>
     requires { FitsFile script.iccid_file }
     ensures standing { IfOk result IsStanding }
     ensures script { IfOk result (λ r. r.script ≡ script) }
+    ensures fresh { IfOk result (λ r. mark_count r.lines ≡ 0) }
 {
     Ok(Run {
         slot: slot_of(alloc, script.iccid_file.as_slice())?,

@@ -1,4 +1,6 @@
-use Rattle.std.proofs.Common.{◌≡◌, length, refl, ap, ◌∙◌, arith, is_some}
+use Rattle.uicc_replay.specs.declared.report.Line.{Line}
+use Rattle.uicc_replay.specs.Turns.{mark_count}
+use Rattle.std.proofs.Common.{◌≡◌, List, length, refl, ap, ◌∙◌, arith, is_some}
 use Rattle.card_model.specs.declared.world.World.{World}
 use Rattle.apdu.specs.Values.{ResponseValue}
 use Rattle.card_model.specs.Step.{card_inside}
@@ -22,5 +24,6 @@ returns c = record {
   standing = to_loading _ _ _ _ _ _ _ _ _ _ _ _ _ _ _ _ c.requires.within c.in_ok-push.ensures.ok c.command_of-selects.ensures c.in_ok-response.ensures c.size_of-size.ensures
       c.command_of-reads.ensures c.in_ok-response-2.ensures (c.in_ok-from_slice.ensures ∙ c.as_slice.ensures.value ∙ ap (λ (r : ResponseValue). r.body) c.response.view_is);
   script = refl;
+  marks = ap (λ (ls : List Line). mark_count ls) c.in_ok-response-2.ensures.lines ∙ ap (λ (ls : List Line). mark_count ls) c.in_ok-response.ensures.lines ∙ ap (λ (ls : List Line). mark_count ls) c.in_ok-push.ensures.ok;
   stage = refl;
 }
