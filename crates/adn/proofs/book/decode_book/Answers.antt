@@ -1,4 +1,4 @@
-use Rattle.std.proofs.Common.{◌≡◌, ◌++◌, ◌∷◌, [], List, ℕ, ap, rules, ◌∙◌}
+use Rattle.std.proofs.Common.{rules, ◌∙◌}
 use Rattle.adn.specs.Book.{book_row, extension_rows}
 use Rattle.adn.proofs.Rows.{row_read, rows_read}
 use Rattle.adn.proofs.book.decode_book.Goals as goal
