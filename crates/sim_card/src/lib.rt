@@ -9,12 +9,17 @@ mod command;
 mod control;
 mod event;
 mod file;
-mod profile;
+mod get_response;
+mod manage;
 mod read;
+mod record;
 mod response;
 mod select;
 mod slot;
 mod step;
+mod toolkit;
+mod update;
+mod verify;
 
 pub use calls::{Call, play};
 pub use slot::SimSlot;
