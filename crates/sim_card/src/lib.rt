@@ -10,6 +10,7 @@ mod control;
 mod event;
 mod file;
 mod get_response;
+mod laws;
 mod manage;
 mod read;
 mod record;
@@ -22,6 +23,7 @@ mod update;
 mod verify;
 
 pub use calls::{Call, play};
+pub use laws::{refusal_keeps, reset_keeps, success_announces, tries_keep};
 pub use slot::SimSlot;
 
 #[cfg(test)]
