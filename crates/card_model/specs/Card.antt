@@ -56,6 +56,10 @@ has_path path file = same_bytes file.path path
 abbrev pub file_at : List ℕ → CardState → Option FileState
 file_at path card = find (has_path path) card.files
 
+-- where the file of a path stands among the card's files
+abbrev pub file_place : List ℕ → CardState → Option ℕ
+file_place path card = position (has_path path) card.files
+
 -- the file of a path: none below the application's directory where the card has no USIM
 abbrev pub file_of : List ℕ → CardState → Option FileState
 file_of path card = if is_in_application path && is_none (usim_of card) then None else file_at path card
@@ -91,6 +95,10 @@ current_path channel = unwrap_or channel.current []
 -- the file that is current on a channel, where that is no directory
 abbrev pub current_file : CardState → ChannelState → Option FileState
 current_file card channel = option_and_then (λ path. file_at path card) channel.current
+
+-- where that file stands among the card's files
+abbrev pub current_place : CardState → ChannelState → Option ℕ
+current_place card channel = option_and_then (λ path. file_place path card) channel.current
 
 -- the directory that is current, or that of the current file
 abbrev pub current_directory : CardState → ChannelState → List ℕ
@@ -146,6 +154,10 @@ has_key number key = key.key == number
 -- the first key with this number
 abbrev pub key_at : ℕ → CardState → Option PinState
 key_at number card = find (has_key number) card.keys
+
+-- where that key stands among the card's keys
+abbrev pub key_place : ℕ → CardState → Option ℕ
+key_place number card = position (has_key number) card.keys
 
 abbrev pub is_met : CardState → Need → Bool
 is_met card Always = true

@@ -1,5 +1,14 @@
 pub mod Waiting
 pub mod Card
+pub mod Instructions
+pub mod Answers
+pub mod Select
+pub mod GetResponse
+pub mod Read
+pub mod Update
+pub mod Verify
+pub mod Channels
+pub mod Toolkit
 pub mod Step
 pub mod Limits
 pub mod Slot

@@ -1,5 +1,5 @@
 -- What a slot that tells its world says of its calls.
-use Rattle.std.specs.Prelude.{◌≡◌, ◌⊎◌, ℕ, ◌+◌, ◌-◌, ◌^◌, min, ◌==◌, ◌||◌, Bool, true, false, nat_lt, is_some, is_none, List, length, find, slice_get, Option, Some, None, option_map, unwrap_or, Result, Ok, Err, IfSome, OnErr, is_err, IsTrue, if◌then◌else◌}
+use Rattle.std.specs.Prelude.{◌≡◌, ◌⊎◌, ℕ, ◌+◌, ◌-◌, ◌^◌, min, ◌==◌, ◌||◌, Bool, true, false, nat_lt, is_some, is_none, List, length, find, Option, Some, None, option_map, Result, Ok, Err, IfSome, OnErr, is_err, IsTrue, if◌then◌else◌}
 use Rattle.apdu.specs.Values.{CommandValue, ResponseValue}
 use Rattle.card_model.specs.declared.world.World.{World}
 use Rattle.card_model.specs.declared.world.CardState.{CardState}

@@ -1,15 +1,12 @@
 -- The card as a table of commands, ETSI TS 102 221 clause 11 and TS 102 223 clause 6, in this project's profile,
--- and the events of the world round it. So far the table has SELECT, READ BINARY and TERMINAL PROFILE.
-use Rattle.std.specs.Prelude.{ℕ, ◌+◌, ◌-◌, ◌%◌, ◌==◌, ◌&&◌, ◌||◌, not, Bool, true, false, nat_lt, nat_le, if◌then◌else◌, List, [], ◌∷◌, ◌++◌, length, take, drop, map, slice_get, slice_set, Option, Some, None, is_some, is_none, unwrap_or, option_map, option_and_then}
+-- and the events of the world round it. The rows stand in Select, GetResponse, Read, Update, Verify, Channels and Toolkit.
+use Rattle.std.specs.Prelude.{ℕ, not, Bool, true, false, if◌then◌else◌, List, [], ◌∷◌, ◌++◌, map, slice_get, slice_set, Option, Some, None, option_and_then}
 use Rattle.apdu.specs.Values.{CommandValue, ResponseValue}
-use Rattle.apdu.specs.Words.{same_bytes, is_empty, is_one_of, is_between, pair_value, path_of}
-use Rattle.apdu.specs.Apdu.{select_ins, read_binary_ins, terminal_profile_ins, channel_of, is_toolkit, refusal}
+use Rattle.apdu.specs.Apdu.{channel_of, is_toolkit, refusal}
 use Rattle.apdu.specs.declared.class.ClassKind.{ClassKind}
 use Rattle.apdu.specs.declared.class.ClassKind.TheVariants.{Plain, Toolkit}
-use Rattle.fcp.specs.Content.{is_transparent, first_row}
-use Rattle.refresh_cmd.specs.Proactive.{master_file}
-use Rattle.card_model.specs.Waiting.{WaitingValue}
-use Rattle.card_model.specs.declared.world.FileState.{FileState}
+use Rattle.card_model.specs.declared.instruction.Instruction.{Instruction}
+use Rattle.card_model.specs.declared.instruction.Instruction.TheVariants.{Select, GetResponse, Status, ReadBinary, UpdateBinary, ReadRecord, UpdateRecord, Verify, ManageChannel, TerminalProfile, Fetch, TerminalResponse}
 use Rattle.card_model.specs.declared.world.PinState.{PinState}
 use Rattle.card_model.specs.declared.world.ChannelState.{ChannelState}
 use Rattle.card_model.specs.declared.world.Change.{Change}
@@ -17,184 +14,54 @@ use Rattle.card_model.specs.declared.world.CardState.{CardState}
 use Rattle.card_model.specs.declared.world.World.{World}
 use Rattle.card_model.specs.declared.world.WorldEvent.{WorldEvent}
 use Rattle.card_model.specs.declared.world.WorldEvent.TheVariants.{Arm, Out, Insert}
-use Rattle.card_model.specs.Card.{application_id, application_named, channel_place, fresh_channel, current_file, current_directory, is_selectable, rule_of, is_met, current_parameters, change_command, first_armed}
+use Rattle.card_model.specs.Card.{channel_place, fresh_channel}
+use Rattle.card_model.specs.Instructions.{instruction_of, kind_of, is_fetch}
+use Rattle.card_model.specs.Answers.{refuses}
+use Rattle.card_model.specs.Select.{select_row}
+use Rattle.card_model.specs.GetResponse.{without_waiting, get_response_row}
+use Rattle.card_model.specs.Read.{read_binary_row, read_record_row}
+use Rattle.card_model.specs.Update.{update_binary_row, update_record_row}
+use Rattle.card_model.specs.Verify.{verify_row}
+use Rattle.card_model.specs.Channels.{manage_channel_row}
+use Rattle.card_model.specs.Toolkit.{status_row, terminal_profile_row, fetch_row, terminal_response_row}
 
--- the commands that the table has so far
+-- a simulated card serves every row but FETCH so far
+abbrev pub is_served_row : Option Instruction → Bool
+is_served_row None = true
+is_served_row (Some row) = not (is_fetch row)
+
 abbrev pub is_served : CommandValue → Bool
-is_served c = is_one_of c.ins (select_ins ∷ read_binary_ins ∷ terminal_profile_ins ∷ [])
-
--- ---- what a command gives: the card after it, and the response
-
--- a chain of checks: the first that holds refuses with its word, and the card stays as it is
-abbrev pub refuses : CardState → ℕ → CardState × ResponseValue
-refuses card word = (card, refusal word)
-
--- XX of 256 is 00
-abbrev pub length_byte : ℕ → ℕ
-length_byte n = n % 256
-
--- the status word that announces a change, unless a TERMINAL RESPONSE is awaited
-abbrev pub announced_word : Bool → Option Change → ℕ
-announced_word awaiting None = 0x9000
-announced_word awaiting (Some change) = if awaiting then 0x9000 else 0x9100 + length_byte (length (change_command change))
-
--- 9000, or 91XX where a change is armed and nothing is awaited
-abbrev pub success_word : List Change → CardState → ℕ
-success_word changes card = announced_word card.awaiting (first_armed changes card)
-
-abbrev pub answer : List ℕ → ℕ → ResponseValue
-answer body word = record { body = body; sw = word }
-
--- the card after the command, with a body and success
-abbrev pub answers : List Change → CardState → List ℕ → CardState × ResponseValue
-answers changes card body = (card, answer body (success_word changes card))
-
-abbrev pub succeeds : List Change → CardState → CardState × ResponseValue
-succeeds changes card = answers changes card []
-
--- ---- parts of a command
-
-abbrev pub body_len : CommandValue → ℕ
-body_len c = length c.body
-
--- P1 P2 as one number
-abbrev pub parameters : CommandValue → ℕ
-parameters c = pair_value c.p1 c.p2
-
--- ---- changed cards
-
--- the channel at this place is another
-abbrev pub with_channel : CardState → ℕ → ChannelState → CardState
-with_channel card place channel = record card { channels = slice_set card.channels place channel }
-
-abbrev pub with_waiting : CardState → Option WaitingValue → CardState
-with_waiting card waiting = record card { waiting = waiting }
-
--- ---- SELECT, clause 11.1.1
-
-abbrev pub ids_of : List ℕ → List ℕ
-ids_of [] = []
-ids_of (b ∷ []) = []
-ids_of (high ∷ low ∷ rest) = pair_value high low ∷ ids_of rest
-
--- P1 00 names the MF, the application's directory, or a child of the current directory
-abbrev pub ids_of_child : CardState → ChannelState → List ℕ → List ℕ
-ids_of_child card channel ids =
-    if same_bytes ids (master_file ∷ []) then []
-    else if same_bytes ids (application_id ∷ []) && is_some channel.app then application_id ∷ []
-    else current_directory card channel ++ ids
-
--- P1 08 gives the ids from the MF on
-abbrev pub selected_ids : CardState → ChannelState → CommandValue → List ℕ
-selected_ids card channel c = if c.p1 == 0x08 then ids_of c.body else ids_of_child card channel (ids_of c.body)
-
--- P2 04 asks for the control parameters; they come, or 61LL comes and they wait
-abbrev pub parameters_answer : List Change → CardState → ℕ → List ℕ → CardState × ResponseValue
-parameters_answer changes card number bytes =
-    if card.get_response
-    then (with_waiting card (Some (record { channel = number; bytes = bytes })), refusal (0x6100 + length_byte (length bytes)))
-    else answers changes card bytes
-
--- the channel at this place has the target current; P2 0C asks for nothing
-abbrev pub selection_answer : List Change → CardState → ℕ → ChannelState → CommandValue → CardState × ResponseValue
-selection_answer changes card place channel c =
-    if c.p2 == 0x0C then succeeds changes (with_channel card place channel)
-    else parameters_answer changes (with_channel card place channel) channel.number (current_parameters card channel)
-
-abbrev pub is_select_length : CommandValue → Bool
-is_select_length c =
-    if c.p1 == 0x00 then body_len c == 2
-    else if c.p1 == 0x04 then is_between 5 16 (body_len c)
-    else is_one_of (body_len c) (2 ∷ 4 ∷ 6 ∷ [])
-
-abbrev pub select_found : List Change → CardState → ℕ → ChannelState → CommandValue → Option ℕ → CardState × ResponseValue
-select_found changes card place channel c None = refuses card 0x6A82
-select_found changes card place channel c (Some app) =
-    selection_answer changes card place (record channel { app = Some app; current = Some (application_id ∷ []) }) c
-
--- P1 04: the first application whose identifier begins with the body
-abbrev pub select_application : List Change → CardState → ℕ → ChannelState → CommandValue → CardState × ResponseValue
-select_application changes card place channel c = select_found changes card place channel c (application_named c.body card)
-
-abbrev pub select_ids : List Change → CardState → ℕ → ChannelState → CommandValue → List ℕ → CardState × ResponseValue
-select_ids changes card place channel c ids =
-    if is_selectable card channel ids
-    then selection_answer changes card place (record channel { current = path_of ids }) c
-    else refuses card 0x6A82
-
-unfoldable pub select_row : List Change → CardState → ℕ → ChannelState → CommandValue → CardState × ResponseValue
-select_row changes card place channel c =
-    if not (is_one_of c.p1 (0x00 ∷ 0x04 ∷ 0x08 ∷ [])) || not (is_one_of c.p2 (0x04 ∷ 0x0C ∷ [])) then refuses card 0x6A86
-    else if not (is_select_length c) then refuses card 0x6700
-    else if c.p1 == 0x04 then select_application changes card place channel c
-    else select_ids changes card place channel c (selected_ids card channel c)
-
--- ---- READ BINARY, clause 11.1.3
-
--- from the offset on, Le bytes
-abbrev pub read_bytes : List Change → CardState → FileState → ℕ → ℕ → CardState × ResponseValue
-read_bytes changes card file at le =
-    if nat_le (length (first_row file.rows.rows)) at then refuses card 0x6B00
-    else if file.endless then refuses card 0x6C01
-    else if nat_lt (length (first_row file.rows.rows) - at) le then refuses card (0x6C00 + length_byte (length (first_row file.rows.rows) - at))
-    else answers changes card (take le (drop at (first_row file.rows.rows)))
-
-abbrev pub read_with_le : List Change → CardState → FileState → CommandValue → Option ℕ → CardState × ResponseValue
-read_with_le changes card file c None = refuses card 0x6700
-read_with_le changes card file c (Some le) =
-    if not (is_empty c.body) then refuses card 0x6700
-    else if not file.active then refuses card 0x6985
-    else if not (is_met card (rule_of card file).read) then refuses card 0x6982
-    else read_bytes changes card file (parameters c) le
-
--- P1 P2 is the offset; bit 8 of P1 would be a short file id
-abbrev pub read_found : List Change → CardState → CommandValue → Option FileState → CardState × ResponseValue
-read_found changes card c None = refuses card 0x6986
-read_found changes card c (Some file) =
-    if not (is_transparent file.rows.kind) then refuses card 0x6981
-    else if nat_le 0x80 c.p1 then refuses card 0x6A86
-    else read_with_le changes card file c c.le
-
-unfoldable pub read_binary_row : List Change → CardState → ChannelState → CommandValue → CardState × ResponseValue
-read_binary_row changes card channel c = read_found changes card c (current_file card channel)
-
--- ---- TERMINAL PROFILE, clause 11.2.1
-
-unfoldable pub terminal_profile_row : List Change → CardState → CommandValue → CardState × ResponseValue
-terminal_profile_row changes card c =
-    if not (parameters c == 0) then refuses card 0x6A86
-    else if is_empty c.body then refuses card 0x6700
-    else succeeds changes card
+is_served c = is_served_row (instruction_of c.ins)
 
 -- ---- the table
 
--- the kind of class that the instruction goes with; none where it is not in the table
-abbrev pub row_kind : ℕ → Option ClassKind
-row_kind ins =
-    if ins == select_ins then Some Plain
-    else if ins == read_binary_ins then Some Plain
-    else if ins == terminal_profile_ins then Some Toolkit
-    else None
-
-abbrev pub on_row : List Change → CardState → ℕ → ChannelState → CommandValue → CardState × ResponseValue
-on_row changes card place channel c =
-    if c.ins == select_ins then select_row changes card place channel c
-    else if c.ins == read_binary_ins then read_binary_row changes card channel c
-    else terminal_profile_row changes card c
+abbrev pub on_row : List Change → CardState → ℕ → ChannelState → CommandValue → Instruction → CardState × ResponseValue
+on_row changes card place channel c Select = select_row changes card place channel c
+on_row changes card place channel c GetResponse = get_response_row changes card channel c
+on_row changes card place channel c Status = status_row changes card c
+on_row changes card place channel c ReadBinary = read_binary_row changes card channel c
+on_row changes card place channel c UpdateBinary = update_binary_row changes card channel c
+on_row changes card place channel c ReadRecord = read_record_row changes card channel c
+on_row changes card place channel c UpdateRecord = update_record_row changes card channel c
+on_row changes card place channel c Verify = verify_row changes card c
+on_row changes card place channel c ManageChannel = manage_channel_row changes card c
+on_row changes card place channel c TerminalProfile = terminal_profile_row changes card c
+on_row changes card place channel c Fetch = fetch_row changes card c
+on_row changes card place channel c TerminalResponse = terminal_response_row changes card c
 
 abbrev pub same_kind : ClassKind → ClassKind → Bool
 same_kind Plain kind = not (is_toolkit kind)
 same_kind Toolkit kind = is_toolkit kind
 
--- what was waiting for GET RESPONSE is dropped by every other command, and a refusal of the row changes nothing else
-abbrev pub on_kind : List Change → CardState → ℕ → ChannelState → ClassKind → CommandValue → Option ClassKind → CardState × ResponseValue
+-- what was waiting may be dropped, and a refusal of the row changes nothing else
+abbrev pub on_kind : List Change → CardState → ℕ → ChannelState → ClassKind → CommandValue → Option Instruction → CardState × ResponseValue
 on_kind changes card place channel kind c None = refuses card 0x6D00
-on_kind changes card place channel kind c (Some of_row) =
-    if same_kind of_row kind then on_row changes (with_waiting card None) place channel c else refuses card 0x6E00
+on_kind changes card place channel kind c (Some row) =
+    if same_kind (kind_of row) kind then on_row changes (without_waiting card channel row) place channel c row else refuses card 0x6E00
 
 abbrev pub on_channel : List Change → CardState → ℕ → ClassKind → Option ChannelState → CommandValue → CardState × ResponseValue
 on_channel changes card place kind None c = refuses card 0x6881
-on_channel changes card place kind (Some channel) c = on_kind changes card place channel kind c (row_kind c.ins)
+on_channel changes card place kind (Some channel) c = on_kind changes card place channel kind c (instruction_of c.ins)
 
 abbrev pub on_place : List Change → CardState → ClassKind → Option ℕ → CommandValue → CardState × ResponseValue
 on_place changes card kind None c = refuses card 0x6881

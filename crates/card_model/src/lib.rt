@@ -1,10 +1,12 @@
 //! The world of a simulated card as plain values, what a command does to it, and the slot that it sits in.
 #![tactic(auto)]
 
+mod instruction;
 mod lists;
 mod slot;
 mod world;
 
+pub use instruction::Instruction;
 pub use lists::{ArmedList, ChannelList};
 pub use slot::{ScriptedSlot, Slot, SlotFault, WorldRefusal};
 pub use world::{

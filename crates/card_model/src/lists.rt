@@ -1,5 +1,6 @@
 // Lists of a fixed room, which take no memory.
-ghost use Rattle.std.specs.Prelude.{◌≡◌, ◌<◌, ◌∷◌, ◌++◌, [], length, slice_get, slice_set, IsOk, OnOk, OnErr, OnSome};
+ghost use Rattle.std.specs.Prelude.{◌≡◌, ◌<◌, ◌∷◌, ◌++◌, [], length, drop, slice_get, slice_set, IsOk, OnOk, OnErr, OnSome};
+ghost use Rattle.std.specs.List.{remove};
 ghost use Rattle.std.specs.Option.{option_copied};
 
 use crate::ChannelState;
@@ -57,6 +58,14 @@ impl ChannelList {
         self.items.as_mut_slice()[at] = channel;
     }
 
+    /// Takes a channel out; those behind it move up.
+    pub fn remove(&mut self, at: usize)
+        requires { at < length self.old }
+        ensures { self.new ≡ remove self.old at }
+    {
+        let _ = self.items.remove(at);
+    }
+
     /// Closes every channel.
     pub fn clear(&mut self)
         ensures { self.new ≡ [] }
@@ -110,6 +119,15 @@ impl ArmedList {
         ensures { result.now ≡ self.now }
     {
         self.items.as_slice()
+    }
+
+    /// Takes the first number out, where there is one.
+    pub fn remove_first(&mut self)
+        ensures { self.new ≡ drop 1 self.old }
+    {
+        if !self.items.is_empty() {
+            let _ = self.items.remove(0);
+        }
     }
 
     /// Puts a number at the end. There is no room past 64.

@@ -1,11 +1,11 @@
 // Access rules and keys, ETSI TS 102 221 clause 9.
-ghost use Rattle.std.specs.Prelude.{◌≡◌, ◌≤◌, length};
+ghost use Rattle.std.specs.Prelude.{◌≡◌, ◌≤◌, ◌<◌, length, IfSome};
 ghost use Rattle.std.specs.Option.{option_copied};
 ghost use Rattle.apdu.specs.Words.{has_value};
 ghost use Rattle.card_model.specs.declared.world.PinState.{PinState};
 ghost use Rattle.card_model.specs.Card as model;
 
-use crate::file::{directory_of, file_at};
+use crate::file::{directory_of, file_at, row_from_one};
 use arrayvec::ArrayVec;
 use card_model::{CardState, FileState, PinState};
 use fcp::{ArrRef, Need, Rule, read_rule};
@@ -25,17 +25,6 @@ fn rule_file_path(path: &[u16], arr: ArrRef) -> ArrayVec<u16, 3>
         ids.push(arr.file_id);
     }
     ids
-}
-
-// The row of a number from 1.
-fn row_from_one(row: u8, file: &FileState) -> Option<&[u8]>
-    ensures { option_copied result ≡ model.row_from_one row file.now }
-{
-    if 0 < row {
-        file.rows.row(row as usize - 1)
-    } else {
-        None
-    }
 }
 
 fn rule_row<'a>(card: &'a CardState, path: &[u16], arr: ArrRef) -> Option<&'a [u8]>
@@ -78,6 +67,17 @@ fn key_at(number: u8, card: &CardState) -> Option<&PinState>
     ensures { option_copied result ≡ model.key_at number card.now }
 {
     card.keys.as_slice().iter().find(|key| key.key == number)
+}
+
+/// Where the first key with this number stands among the card's keys.
+pub fn key_place(number: u8, card: &CardState) -> Option<usize>
+    ensures value { result ≡ model.key_place number card.now }
+    ensures within { IfSome result (λ place. place < length card.now.keys) }
+{
+    card.keys
+        .as_slice()
+        .iter()
+        .position(|key| key.key == number)
 }
 
 fn is_verified(number: u8, card: &CardState) -> bool

@@ -1,34 +1,22 @@
 // A command on a card: its class and channel, and the row of its instruction, ETSI TS 102 221 clause 10.1.
-ghost use Rattle.std.specs.Prelude.{◌≡◌, ◌<◌, length, slice_get, All};
+ghost use Rattle.std.specs.Prelude.{◌≡◌, ◌<◌, length, slice_get, All, IsTrue, not};
 ghost use Rattle.apdu.specs.Apdu.{is_toolkit as is_toolkit_class};
 ghost use Rattle.card_model.specs.Step as table;
+ghost use Rattle.card_model.specs.Instructions.{instruction_of, is_fetch};
 ghost use Rattle.card_model.specs.Limits.{IsFittingChange, IsFittingCard};
 
 use crate::channel::{channel_place, copy_of};
-use crate::profile::terminal_profile_row;
+use crate::get_response::{drop_waiting, get_response_row};
+use crate::manage::manage_channel_row;
 use crate::read::read_binary_row;
+use crate::record::read_record_row;
 use crate::response::refused;
 use crate::select::select_row;
+use crate::toolkit::{status_row, terminal_profile_row, terminal_response_row};
+use crate::update::{update_binary_row, update_record_row};
+use crate::verify::verify_row;
 use apdu::{ClassKind, Command, Response, channel_of};
-use card_model::{CardState, Changes, ChannelState};
-
-const SELECT: u8 = 0xA4;
-
-const READ_BINARY: u8 = 0xB0;
-
-const TERMINAL_PROFILE: u8 = 0x10;
-
-// The kind of class that the instruction goes with; none where it is not in the table.
-fn row_kind(ins: u8) -> Option<ClassKind>
-    ensures { result ≡ table.row_kind ins }
-{
-    match ins {
-        SELECT => Some(ClassKind::Plain),
-        READ_BINARY => Some(ClassKind::Plain),
-        TERMINAL_PROFILE => Some(ClassKind::Toolkit),
-        _ => None,
-    }
-}
+use card_model::{CardState, Changes, ChannelState, Instruction};
 
 fn is_toolkit(kind: ClassKind) -> bool
     ensures { result ≡ is_toolkit_class kind }
@@ -54,23 +42,31 @@ fn on_row(
     place: usize,
     channel: &ChannelState,
     command: &Command,
+    row: Instruction,
 ) -> Response
     requires changes { All IsFittingChange changes.now }
     requires card { IsFittingCard card.old }
     requires place { place < length card.old.channels }
+    requires served { IsTrue (not (is_fetch row)) }
     ensures fits { IsFittingCard card.new }
-    ensures value { (card.new, result) ≡ table.on_row changes.now card.old place channel.now command.now }
+    ensures value { (card.new, result) ≡ table.on_row changes.now card.old place channel.now command.now row }
 {
-    if command.ins == SELECT {
-        select_row(changes, card, place, channel, command)
-    } else if command.ins == READ_BINARY {
-        read_binary_row(changes, card, channel, command)
-    } else {
-        terminal_profile_row(changes, card, command)
+    match row {
+        Instruction::Select => select_row(changes, card, place, channel, command),
+        Instruction::GetResponse => get_response_row(changes, card, channel, command),
+        Instruction::Status => status_row(changes, card, command),
+        Instruction::ReadBinary => read_binary_row(changes, card, channel, command),
+        Instruction::UpdateBinary => update_binary_row(changes, card, channel, command),
+        Instruction::ReadRecord => read_record_row(changes, card, channel, command),
+        Instruction::UpdateRecord => update_record_row(changes, card, channel, command),
+        Instruction::Verify => verify_row(changes, card, command),
+        Instruction::ManageChannel => manage_channel_row(changes, card, command),
+        Instruction::TerminalProfile => terminal_profile_row(changes, card, command),
+        Instruction::Fetch => unreachable!(),
+        Instruction::TerminalResponse => terminal_response_row(changes, card, command),
     }
 }
 
-// Every command but GET RESPONSE drops what was waiting for it.
 fn on_kind(
     changes: &Changes,
     card: &mut CardState,
@@ -82,17 +78,18 @@ fn on_kind(
     requires changes { All IsFittingChange changes.now }
     requires card { IsFittingCard card.old }
     requires place { place < length card.old.channels }
+    requires served { IsTrue (table.is_served command.now) }
     ensures fits { IsFittingCard card.new }
-    ensures value { (card.new, result) ≡ table.on_kind changes.now card.old place channel.now kind command.now (table.row_kind command.now.ins) }
+    ensures value { (card.new, result) ≡ table.on_kind changes.now card.old place channel.now kind command.now (instruction_of command.now.ins) }
 {
-    let Some(of_row) = row_kind(command.ins) else {
+    let Some(row) = Instruction::from_byte(command.ins) else {
         return refused(0x6D00);
     };
-    if !same_kind(of_row, kind) {
+    if !same_kind(row.kind(), kind) {
         return refused(0x6E00);
     }
-    card.waiting = None;
-    on_row(changes, card, place, channel, command)
+    drop_waiting(card, channel, row);
+    on_row(changes, card, place, channel, command, row)
 }
 
 fn on_place(
@@ -105,6 +102,7 @@ fn on_place(
     requires changes { All IsFittingChange changes.now }
     requires card { IsFittingCard card.old }
     requires place { place < length card.old.channels }
+    requires served { IsTrue (table.is_served command.now) }
     ensures fits { IsFittingCard card.new }
     ensures value { (card.new, result) ≡ table.on_channel changes.now card.old place kind (slice_get card.old.channels place) command.now }
 {
@@ -120,6 +118,7 @@ fn on_place(
 pub fn on_card(changes: &Changes, card: &mut CardState, command: &Command) -> Response
     requires changes { All IsFittingChange changes.now }
     requires card { IsFittingCard card.old }
+    requires served { IsTrue (table.is_served command.now) }
     ensures fits { IsFittingCard card.new }
     ensures value { (card.new, result) ≡ table.on_card changes.now card.old command.now }
 {

@@ -5,7 +5,8 @@ ghost use Rattle.card_model.specs.Card as model;
 ghost use Rattle.card_model.specs.Limits.{HasFittingParameters};
 
 use crate::file::{
-    APPLICATION_ID, directory_of, file_at, is_directory_path, is_in_application, is_usim,
+    APPLICATION_ID, directory_of, file_at, file_place, is_directory_path, is_in_application,
+    is_usim,
 };
 use card_model::{CardState, ChannelState, FileState};
 
@@ -64,6 +65,17 @@ pub fn current_file<'a>(card: &'a CardState, channel: &ChannelState) -> Option<&
 {
     match &channel.current {
         Some(path) => file_at(path.ids(), card),
+        None => None,
+    }
+}
+
+/// Where the current file stands among the card's files.
+pub fn current_place(card: &CardState, channel: &ChannelState) -> Option<usize>
+    ensures value { result ≡ model.current_place card.now channel.now }
+    ensures within { IfSome result (λ place. place < length card.now.files) }
+{
+    match &channel.current {
+        Some(path) => file_place(path.ids(), card),
         None => None,
     }
 }

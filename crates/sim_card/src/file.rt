@@ -1,7 +1,8 @@
 // Files, directories and applications of a card, ETSI TS 102 221 clause 8.
-ghost use Rattle.std.specs.Prelude.{◌≡◌, ◌<◌, ◌&&◌, length, IfSome, is_some};
+ghost use Rattle.std.specs.Prelude.{◌≡◌, ◌<◌, ◌≤◌, ◌&&◌, length, IfSome, IsTrue, is_some};
 ghost use Rattle.std.specs.Option.{option_copied};
 ghost use Rattle.apdu.specs.Words.{same_number};
+ghost use Rattle.fcp.specs.Content.{first_row as row_of_bytes, is_linear};
 ghost use Rattle.card_model.specs.Card as model;
 
 use card_model::{CardState, FileState};
@@ -19,6 +20,40 @@ pub fn file_at<'a>(path: &[u16], card: &'a CardState) -> Option<&'a FileState>
         .as_slice()
         .iter()
         .find(|file| file.path.ids() == path)
+}
+
+/// Where the file of a path stands among the card's files.
+pub fn file_place(path: &[u16], card: &CardState) -> Option<usize>
+    ensures value { result ≡ model.file_place path.now card.now }
+    ensures within { IfSome result (λ place. place < length card.now.files) }
+{
+    card.files
+        .as_slice()
+        .iter()
+        .position(|file| file.path.ids() == path)
+}
+
+/// The bytes of a transparent file.
+pub fn first_row(file: &FileState) -> &[u8]
+    ensures { result.now ≡ row_of_bytes file.now.rows.rows }
+{
+    match file.rows.row(0) {
+        Some(row) => row,
+        None => &[],
+    }
+}
+
+/// The row of a number from 1.
+pub fn row_from_one(row: u8, file: &FileState) -> Option<&[u8]>
+    ensures value { option_copied result ≡ model.row_from_one row file.now }
+    ensures wide { IsTrue (is_linear file.now.rows.kind) → IfSome result (λ r. length r.now ≤ 255) }
+{
+    let _count = file.rows.count();
+    if 0 < row {
+        file.rows.row(row as usize - 1)
+    } else {
+        None
+    }
 }
 
 /// The first application whose identifier begins with these bytes.

@@ -9,14 +9,21 @@ mod command;
 mod control;
 mod event;
 mod file;
-mod profile;
+mod get_response;
+mod laws;
+mod manage;
 mod read;
+mod record;
 mod response;
 mod select;
 mod slot;
 mod step;
+mod toolkit;
+mod update;
+mod verify;
 
 pub use calls::{Call, play};
+pub use laws::{refusal_keeps, reset_keeps, success_announces, tries_keep};
 pub use slot::SimSlot;
 
 #[cfg(test)]

@@ -1,27 +1,17 @@
 // READ BINARY, ETSI TS 102 221 clause 11.1.3.
-ghost use Rattle.std.specs.Prelude.{◌≡◌, ◌≤◌, All};
+ghost use Rattle.std.specs.Prelude.{◌≡◌, ◌≤◌, All, IfSome};
 ghost use Rattle.std.specs.Option.{option_copied};
-ghost use Rattle.fcp.specs.Content.{first_row as row_of_bytes};
-ghost use Rattle.card_model.specs.Step as table;
+ghost use Rattle.card_model.specs.Read as table;
 ghost use Rattle.card_model.specs.Limits.{IsFittingChange};
 
 use crate::access::{is_met, rule_of};
 use crate::channel::current_file;
-use crate::command::parameters;
+use crate::command::{parameters, wanted_le};
+use crate::file::first_row;
 use crate::response::{answer, refused, success_word};
 use apdu::{Command, Response};
 use card_model::{CardState, Changes, ChannelState, FileState};
 use fcp::FileKind;
-
-// The bytes of a transparent file.
-fn first_row(file: &FileState) -> &[u8]
-    ensures { result.now ≡ row_of_bytes file.now.rows.rows }
-{
-    match file.rows.row(0) {
-        Some(row) => row,
-        None => &[],
-    }
-}
 
 // From the offset on, `le` bytes.
 fn read_bytes(
@@ -54,16 +44,15 @@ fn read_with_le(
     card: &CardState,
     file: &FileState,
     command: &Command,
+    le: Option<u16>,
 ) -> Response
-    requires { All IsFittingChange changes.now }
-    ensures { (card.now, result) ≡ table.read_with_le changes.now card.now file.now command.now command.now.le }
+    requires changes { All IsFittingChange changes.now }
+    requires short { IfSome le (λ n. n ≤ 256) }
+    ensures { (card.now, result) ≡ table.read_with_le changes.now card.now file.now command.now le }
 {
-    let Some(le) = command.le else {
+    let Some(le) = le else {
         return refused(0x6700);
     };
-    if !command.body.is_empty() {
-        return refused(0x6700);
-    }
     if !file.active {
         return refused(0x6985);
     }
@@ -91,11 +80,11 @@ fn read_found(
     if 0x80 <= command.p1 {
         return refused(0x6A86);
     }
-    read_with_le(changes, card, file, command)
+    read_with_le(changes, card, file, command, wanted_le(command))
 }
 
 /// READ BINARY on a channel.
-#[tactic(auto, unfolding(card_model::specs::Step::read_binary_row))]
+#[tactic(auto, unfolding(card_model::specs::Read::read_binary_row))]
 pub fn read_binary_row(
     changes: &Changes,
     card: &CardState,

@@ -1,9 +1,9 @@
 // Responses, and the status word of success, ETSI TS 102 221 clause 10.2.1.
-ghost use Rattle.std.specs.Prelude.{◌≡◌, ◌≤◌, length, All, IfSome};
+ghost use Rattle.std.specs.Prelude.{◌≡◌, ◌≤◌, [], length, All, IfSome};
 ghost use Rattle.std.specs.Option.{option_copied};
 ghost use Rattle.apdu.specs.Apdu.{refusal};
 ghost use Rattle.card_model.specs.Card as model;
-ghost use Rattle.card_model.specs.Step as table;
+ghost use Rattle.card_model.specs.Answers as table;
 ghost use Rattle.card_model.specs.Limits.{IsFittingChange};
 
 use apdu::{Response, Sw};
@@ -40,6 +40,14 @@ pub fn success_word(changes: &Changes, card: &CardState) -> u16
     ensures { result ≡ table.success_word changes.now card.now }
 {
     announced_word(card.awaiting, first_armed(changes, card))
+}
+
+/// Success without a body.
+pub fn success(changes: &Changes, card: &CardState) -> Response
+    requires { All IsFittingChange changes.now }
+    ensures { result ≡ table.answer [] (table.success_word changes.now card.now) }
+{
+    refused(success_word(changes, card))
 }
 
 fn announced_word(awaiting: bool, change: Option<&Change>) -> u16

@@ -1,13 +1,13 @@
 // SELECT, ETSI TS 102 221 clause 11.1.1.
 ghost use Rattle.std.specs.Prelude.{◌≡◌, ◌≢◌, ◌≤◌, ◌<◌, length, All, IsTrue};
-ghost use Rattle.card_model.specs.Step as table;
+ghost use Rattle.card_model.specs.Select as table;
 ghost use Rattle.card_model.specs.Limits.{IsFittingChange, IsFittingCard};
 
 use crate::channel::{current_directory, is_selectable};
 use crate::command::{ids_of, is_one_of};
 use crate::control::current_parameters;
 use crate::file::{APPLICATION_ID, application_named};
-use crate::response::{answer, refused, success_word};
+use crate::response::{answer, refused, success, success_word};
 use apdu::{Command, Path, Response};
 use arrayvec::ArrayVec;
 use card_model::{CardState, Changes, ChannelState, Waiting};
@@ -86,7 +86,7 @@ fn selection_answer(
 {
     if command.p2 == 0x0C {
         card.channels.set(place, channel);
-        return answer(&[], success_word(changes, card));
+        return success(changes, card);
     }
     let parameters = current_parameters(card, &channel);
     let number = channel.number;
@@ -159,7 +159,7 @@ fn select_ids(
 }
 
 /// SELECT on the channel at a place.
-#[tactic(auto, unfolding(card_model::specs::Step::select_row))]
+#[tactic(auto, unfolding(card_model::specs::Select::select_row))]
 pub fn select_row(
     changes: &Changes,
     card: &mut CardState,

@@ -86,7 +86,8 @@ fn exchange_with(
     fault: Option<Fault>,
     command: &Command,
 ) -> Result<Response, SlotFault>
-    requires { IsFittingWorld world.old }
+    requires world { IsFittingWorld world.old }
+    requires served { IsTrue (table.is_served command.now) }
     ensures fits { IsFittingWorld world.new }
     ensures ok { IfOk result (slots.AnswersAt world.old (Some world.new) command.now) }
     ensures err { OnErr result (slots.MayHaveActed (Some world.old) (Some world.new) command.now) }

@@ -1,5 +1,5 @@
 // A command in the world, and the reset of the card in the slot.
-ghost use Rattle.std.specs.Prelude.{◌≡◌, slice_get, is_some, map};
+ghost use Rattle.std.specs.Prelude.{◌≡◌, slice_get, is_some, map, IsTrue};
 ghost use Rattle.card_model.specs.Step as table;
 ghost use Rattle.card_model.specs.Limits.{IsFittingCard, IsFittingWorld};
 
@@ -20,7 +20,8 @@ pub fn holds_card(world: &World) -> bool
 }
 
 fn step_of_card(world: &mut World, place: u8, command: &Command) -> Response
-    requires { IsFittingWorld world.old }
+    requires world { IsFittingWorld world.old }
+    requires served { IsTrue (table.is_served command.now) }
     ensures fits { IsFittingWorld world.new }
     ensures value { (world.new, result) ≡ table.step_of_card world.old place (slice_get world.old.cards place) command.now }
 {
@@ -33,7 +34,8 @@ fn step_of_card(world: &mut World, place: u8, command: &Command) -> Response
 /// The command's step; on an empty slot the world stays, and the response says nothing.
 #[tactic(auto, unfolding(card_model::specs::Step::step))]
 pub fn step(world: &mut World, command: &Command) -> Response
-    requires { IsFittingWorld world.old }
+    requires world { IsFittingWorld world.old }
+    requires served { IsTrue (table.is_served command.now) }
     ensures fits { IsFittingWorld world.new }
     ensures value { (world.new, result) ≡ table.step world.old command.now }
 {

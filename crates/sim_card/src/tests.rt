@@ -4,6 +4,8 @@ ghost use Rattle.apdu.specs.Values.{HasLe};
 ghost use Rattle.card_model.specs.Step.{is_served};
 ghost use Rattle.card_model.specs.Limits.{HasFittingParameters, IsFittingCard, IsFittingChange};
 
+mod rows;
+
 use crate::{Call, SimSlot, play};
 use apdu::{Bytes, Command, Path, Sequence};
 use arrayvec::ArrayVec;

@@ -13,7 +13,11 @@ use Rattle.fcp.proofs.ReadBack.{read_fcp-write_fcp}
 use Rattle.card_model.specs.declared.world.World.{World}
 use Rattle.card_model.specs.declared.world.FileState.{FileState}
 use Rattle.card_model.specs.declared.world.WorldEvent.TheVariants.{Insert}
-use Rattle.card_model.specs.Step.{step, on_card, select_row, read_binary_row, terminal_profile_row, after_event, answer, read_bytes}
+use Rattle.card_model.specs.Answers.{answer}
+use Rattle.card_model.specs.Select.{select_row}
+use Rattle.card_model.specs.Read.{read_binary_row, read_bytes}
+use Rattle.card_model.specs.Toolkit.{terminal_profile_row}
+use Rattle.card_model.specs.Step.{step, on_card, after_event}
 use Rattle.uicc_replay.specs.declared.script.Script.{Script}
 use Rattle.uicc_replay.specs.Families.{iccid_path}
 use Rattle.uicc_replay.specs.History.{first_world}

@@ -9,7 +9,8 @@ use Rattle.fcp.specs.Control.{write_fcp}
 use Rattle.card_model.specs.declared.world.World.{World}
 use Rattle.card_model.specs.declared.world.WorldEvent.TheVariants.{Insert}
 use Rattle.card_model.specs.declared.slot.WorldRefusal.{WorldRefusal}
-use Rattle.card_model.specs.Step.{step, card_inside, after_event, answer}
+use Rattle.card_model.specs.Answers.{answer}
+use Rattle.card_model.specs.Step.{step, card_inside, after_event}
 use Rattle.card_model.specs.Slot.{Happens, IsRefused, IsResultOf, refusal_of}
 use Rattle.sim_card.specs.Sim.{SimValue, empty_slot}
 use Rattle.uicc_replay.specs.declared.script.Script.{Script}

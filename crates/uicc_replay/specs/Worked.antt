@@ -4,7 +4,7 @@ use Rattle.std.specs.Prelude.{ℕ, ◌≡◌, List, [], ◌∷◌, map, Some, No
 use Rattle.apdu.specs.Values.{CommandValue, ResponseValue}
 use Rattle.apdu.specs.Apdu.{command, with_class, refusal}
 use Rattle.card_model.specs.declared.world.WorldEvent.TheVariants.{Insert}
-use Rattle.card_model.specs.Step.{answer}
+use Rattle.card_model.specs.Answers.{answer}
 use Rattle.uicc_replay.specs.declared.script.Script.{Script}
 use Rattle.uicc_replay.specs.declared.report.Mode.TheVariants.{Replay}
 use Rattle.uicc_replay.specs.declared.report.Answer.TheVariants.{Moved, Loaded}

@@ -1,5 +1,5 @@
 use Rattle.std.proofs.Common.{◌≡◌, ◌+◌, ◌*◌, ◌≤◌, ◌++◌, length}
-use Rattle.card_model.specs.Step.{ids_of}
+use Rattle.card_model.specs.Select.{ids_of}
 use Rattle.sim_card.proofs.command.ids_of.Given as goal
 
 abbrev pub invariant-ids : goal.invariant-ids

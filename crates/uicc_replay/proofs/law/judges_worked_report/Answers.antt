@@ -1,6 +1,9 @@
 use Rattle.std.proofs.Common.{refl}
 use Rattle.fcp.specs.Control.{write_fcp, read_fcp}
-use Rattle.card_model.specs.Step.{step, on_card, select_row, read_binary_row, terminal_profile_row, after_event}
+use Rattle.card_model.specs.Select.{select_row}
+use Rattle.card_model.specs.Read.{read_binary_row}
+use Rattle.card_model.specs.Toolkit.{terminal_profile_row}
+use Rattle.card_model.specs.Step.{step, on_card, after_event}
 use Rattle.uicc_replay.specs.Shown.{shown}
 use Rattle.uicc_replay.proofs.law.judges_worked_report.Goals as goal
 
