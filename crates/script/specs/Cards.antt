@@ -1,0 +1,117 @@
+-- Cards and changes: what JSON says of them, and the rules that they keep.
+use Rattle.std.specs.Prelude.{ℕ, ◌==◌, ◌&&◌, ◌||◌, not, Bool, false, nat_lt, nat_le, if◌then◌else◌, List, [], ◌∷◌, length, Result, Ok, Err, codes}
+use Rattle.std.specs.List.{list_any, list_all}
+use Rattle.apdu.specs.Words.{is_between, is_one_of, path_is_in}
+use Rattle.refresh_cmd.specs.Proactive.{refresh_type}
+use Rattle.card_model.specs.Card.{is_prefix, is_in_application, usim_aid_prefix}
+use Rattle.serde_json.specs.Data.{Data}
+use Rattle.script.specs.declared.error.Why.{Why}
+use Rattle.script.specs.declared.error.Why.TheVariants as why
+use Rattle.script.specs.declared.types.FileSpec.{FileSpec}
+use Rattle.script.specs.declared.types.KeySpec.{KeySpec}
+use Rattle.script.specs.declared.types.CardSpec.{CardSpec}
+use Rattle.script.specs.declared.types.ChangeSpec.{ChangeSpec}
+use Rattle.script.specs.Reading.{◌>>=◌, all_of, rule}
+use Rattle.script.specs.Fields.{flag, whole_to, hex, hex_byte, hex_of, ids, list, field, with_default, only}
+use Rattle.script.specs.Files.{file_form, are_files_within, path, with_path, are_all_apart, has_shape}
+
+-- ---- keys
+
+-- the number of tries left is at most that after a success, which is 1 to 15
+abbrev pub are_tries : KeySpec → Bool
+are_tries key = is_between 1 15 key.max && nat_le key.tries key.max
+
+unfoldable pub key_form : Data → Result KeySpec Why
+key_form d = do
+  known ← only (codes "key" ∷ codes "max" ∷ codes "pin" ∷ codes "tries" ∷ []) d
+  key ← field hex_byte (codes "key") d
+  pin ← field (hex_of 8) (codes "pin") d
+  tries ← field (whole_to 255) (codes "tries") d
+  max ← field (whole_to 255) (codes "max") d
+  let spec : KeySpec = record { key = key; pin = pin; tries = tries; max = max }
+  if are_tries spec then Ok spec else Err why.Form
+
+-- ---- cards
+
+unfoldable pub card_form : Data → Result CardSpec Why
+card_form d = do
+  known ← only (codes "aids" ∷ codes "channels" ∷ codes "files" ∷ codes "get_response" ∷ codes "keys" ∷ []) d
+  files ← field (list file_form) (codes "files") d
+  aids ← with_default [] (list hex) (codes "aids") d
+  keys ← with_default [] (list key_form) (codes "keys") d
+  channels ← with_default 3 (whole_to 255) (codes "channels") d
+  get_response ← with_default false flag (codes "get_response") d
+  Ok (record { files = files; aids = aids; keys = keys; channels = channels; get_response = get_response })
+
+-- an application identifier has 5 to 16 bytes
+abbrev pub is_aid : List ℕ → Bool
+is_aid aid = is_between 5 16 (length aid)
+
+abbrev pub is_card_within : CardSpec → Bool
+is_card_within card = are_files_within card.files && nat_le (length card.aids) 8 && list_all is_aid card.aids && nat_le (length card.keys) 8 && nat_le card.channels 3
+
+-- a USIM among the applications
+abbrev pub has_usim : List (List ℕ) → Bool
+has_usim aids = list_any (is_prefix usim_aid_prefix) aids
+
+abbrev pub is_outside_application : FileSpec → Bool
+is_outside_application file = not (is_in_application file.path)
+
+abbrev pub has_card_shape : CardSpec → Bool
+has_card_shape card = list_all has_shape card.files && (has_usim card.aids || list_all is_outside_application card.files)
+
+-- a card, behind the cards before it
+unfoldable pub card_item : List CardSpec → Data → Result CardSpec Why
+card_item before d = do
+  card ← card_form d
+  limit ← rule why.Limit (nat_lt (length before) 4 && is_card_within card)
+  files ← all_of with_path card.files
+  paths ← rule why.Path (are_all_apart files)
+  shape ← rule why.Shape (has_card_shape card)
+  Ok card
+
+-- ---- changes
+
+-- a list of at most eight paths
+abbrev pub path_list : Data → Result (List (List ℕ)) Why
+path_list d = do
+  paths ← list ids d
+  if nat_le (length paths) 8 then Ok paths else Err why.Form
+
+unfoldable pub change_form : Data → Result ChangeSpec Why
+change_form d = do
+  known ← only (codes "files" ∷ codes "list" ∷ codes "qualifier" ∷ codes "type" ∷ []) d
+  qualifier ← field (whole_to 255) (codes "qualifier") d
+  kind ← with_default 1 (whole_to 255) (codes "type") d
+  paths ← with_default [] path_list (codes "list") d
+  files ← with_default [] (list file_form) (codes "files") d
+  Ok (record { qualifier = qualifier; kind = kind; list = paths; files = files })
+
+abbrev pub is_change_within : ChangeSpec → Bool
+is_change_within change = are_files_within change.files
+
+abbrev pub is_listed : List (List ℕ) → FileSpec → Bool
+is_listed paths file = path_is_in paths file.path
+
+-- a REFRESH by whose qualifier every file counts as changed, or that lists each file, TS 102 223 clause 8.6
+abbrev pub tells_files : ChangeSpec → Bool
+tells_files change = is_one_of change.qualifier (0 ∷ 4 ∷ 5 ∷ 6 ∷ []) || (nat_lt change.qualifier 7 && list_all (is_listed change.list) change.files)
+
+abbrev pub is_empty_list : {A : Type 0} → List A → Bool
+is_empty_list xs = length xs == 0
+
+-- what a change changes, its REFRESH tells
+abbrev pub is_honest : ChangeSpec → Bool
+is_honest change = is_empty_list change.files || ((change.kind == refresh_type) && tells_files change)
+
+-- a change, behind the changes before it
+unfoldable pub change_item : List ChangeSpec → Data → Result ChangeSpec Why
+change_item before d = do
+  change ← change_form d
+  limit ← rule why.Limit (nat_lt (length before) 64 && is_change_within change)
+  list ← all_of path change.list
+  files ← all_of with_path change.files
+  paths ← rule why.Path (are_all_apart files)
+  shape ← rule why.Shape (list_all has_shape change.files)
+  honest ← rule why.Honest (is_honest change)
+  Ok change
