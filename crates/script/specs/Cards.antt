@@ -12,8 +12,8 @@ use Rattle.script.specs.declared.types.KeySpec.{KeySpec}
 use Rattle.script.specs.declared.types.CardSpec.{CardSpec}
 use Rattle.script.specs.declared.types.ChangeSpec.{ChangeSpec}
 use Rattle.script.specs.Reading.{◌>>=◌, all_of, rule}
-use Rattle.script.specs.Fields.{flag, whole_to, hex, hex_byte, hex_of, ids, list, field, with_default, only}
-use Rattle.script.specs.Files.{file_form, are_files_within, path, with_path, are_all_apart, has_shape}
+use Rattle.script.specs.Fields.{flag, whole_to, hex, first_byte, hex_of, ids, list, field, with_default, only}
+use Rattle.script.specs.Files.{file_form, are_files_within, path_of, with_path, are_all_apart, have_shape}
 
 -- ---- keys
 
@@ -24,11 +24,11 @@ are_tries key = is_between 1 15 key.max && nat_le key.tries key.max
 unfoldable pub key_form : Data → Result KeySpec Why
 key_form d = do
   known ← only (codes "key" ∷ codes "max" ∷ codes "pin" ∷ codes "tries" ∷ []) d
-  key ← field hex_byte (codes "key") d
+  key ← field (hex_of 1) (codes "key") d
   pin ← field (hex_of 8) (codes "pin") d
   tries ← field (whole_to 255) (codes "tries") d
   max ← field (whole_to 255) (codes "max") d
-  let spec : KeySpec = record { key = key; pin = pin; tries = tries; max = max }
+  let spec : KeySpec = record { key = first_byte key; pin = pin; tries = tries; max = max }
   if are_tries spec then Ok spec else Err why.Form
 
 -- ---- cards
@@ -50,23 +50,35 @@ is_aid aid = is_between 5 16 (length aid)
 abbrev pub is_card_within : CardSpec → Bool
 is_card_within card = are_files_within card.files && nat_le (length card.aids) 8 && list_all is_aid card.aids && nat_le (length card.keys) 8 && nat_le card.channels 3
 
--- a USIM among the applications
+-- an application whose identifier begins as that of a USIM, ETSI TS 101 220
+abbrev pub is_usim : List ℕ → Bool
+is_usim aid = is_prefix usim_aid_prefix aid
+
 abbrev pub has_usim : List (List ℕ) → Bool
-has_usim aids = list_any (is_prefix usim_aid_prefix) aids
+has_usim aids = list_any is_usim aids
 
 abbrev pub is_outside_application : FileSpec → Bool
 is_outside_application file = not (is_in_application file.path)
 
+abbrev pub are_outside_application : List FileSpec → Bool
+are_outside_application files = list_all is_outside_application files
+
 abbrev pub has_card_shape : CardSpec → Bool
-has_card_shape card = list_all has_shape card.files && (has_usim card.aids || list_all is_outside_application card.files)
+has_card_shape card = have_shape card.files && (has_usim card.aids || are_outside_application card.files)
+
+-- the card, where the paths of its files are paths and apart
+abbrev pub card_with_paths : CardSpec → Result CardSpec Why
+card_with_paths form = do
+  files ← all_of with_path form.files
+  apart ← rule why.Path (are_all_apart files)
+  Ok (record form { files = files })
 
 -- a card, behind the cards before it
 unfoldable pub card_item : List CardSpec → Data → Result CardSpec Why
 card_item before d = do
-  card ← card_form d
-  limit ← rule why.Limit (nat_lt (length before) 4 && is_card_within card)
-  files ← all_of with_path card.files
-  paths ← rule why.Path (are_all_apart files)
+  form ← card_form d
+  limit ← rule why.Limit (nat_lt (length before) 4 && is_card_within form)
+  card ← card_with_paths form
   shape ← rule why.Shape (has_card_shape card)
   Ok card
 
@@ -87,9 +99,6 @@ change_form d = do
   files ← with_default [] (list file_form) (codes "files") d
   Ok (record { qualifier = qualifier; kind = kind; list = paths; files = files })
 
-abbrev pub is_change_within : ChangeSpec → Bool
-is_change_within change = are_files_within change.files
-
 abbrev pub is_listed : List (List ℕ) → FileSpec → Bool
 is_listed paths file = path_is_in paths file.path
 
@@ -104,14 +113,20 @@ is_empty_list xs = length xs == 0
 abbrev pub is_honest : ChangeSpec → Bool
 is_honest change = is_empty_list change.files || ((change.kind == refresh_type) && tells_files change)
 
+-- the change, where its paths are paths, and those of its files apart
+abbrev pub change_with_paths : ChangeSpec → Result ChangeSpec Why
+change_with_paths form = do
+  list ← all_of path_of form.list
+  files ← all_of with_path form.files
+  apart ← rule why.Path (are_all_apart files)
+  Ok (record form { list = list; files = files })
+
 -- a change, behind the changes before it
 unfoldable pub change_item : List ChangeSpec → Data → Result ChangeSpec Why
 change_item before d = do
-  change ← change_form d
-  limit ← rule why.Limit (nat_lt (length before) 64 && is_change_within change)
-  list ← all_of path change.list
-  files ← all_of with_path change.files
-  paths ← rule why.Path (are_all_apart files)
-  shape ← rule why.Shape (list_all has_shape change.files)
+  form ← change_form d
+  limit ← rule why.Limit (nat_lt (length before) 64 && are_files_within form.files)
+  change ← change_with_paths form
+  shape ← rule why.Shape (have_shape change.files)
   honest ← rule why.Honest (is_honest change)
   Ok change

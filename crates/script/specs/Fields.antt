@@ -1,7 +1,7 @@
 -- Values and fields of a JSON object. What has not its form breaks `Form`.
-use Rattle.std.specs.Prelude.{ℕ, ◌+◌, ◌==◌, Bool, false, nat_le, if◌then◌else◌, List, [], ◌∷◌, length, slice_index, Option, Some, None, is_some, option_map, option_and_then, Result, Ok, Err}
+use Rattle.std.specs.Prelude.{ℕ, ◌+◌, ◌==◌, Bool, false, nat_le, if◌then◌else◌, List, [], ◌∷◌, slice_index, Option, Some, None, is_some, option_map, option_and_then, Result, Ok, Err}
 use Rattle.std.specs.Option.{option_map_or}
-use Rattle.apdu.specs.Words.{pair_value, is_between}
+use Rattle.apdu.specs.Words.{pair_value}
 use Rattle.hex.specs.Hex.{decode_of, decode_sized}
 use Rattle.hex.specs.declared.error.FromHexError.{FromHexError}
 use Rattle.serde_json.specs.Data.{Data, Items, no_items, item, Members, no_members, member}
@@ -48,16 +48,8 @@ hex_of count d = do
   digits ← text d
   decoded (decode_sized digits count)
 
-abbrev pub hex_byte : Data → Result ℕ Why
-hex_byte d = do
-  bytes ← hex_of 1 d
-  Ok (slice_index bytes 0)
-
--- hexadecimal of a number of bytes between the two
-abbrev pub hex_between : ℕ → ℕ → Data → Result (List ℕ) Why
-hex_between low high d = do
-  bytes ← hex d
-  if is_between low high (length bytes) then Ok bytes else Err Form
+abbrev pub first_byte : List ℕ → ℕ
+first_byte bytes = slice_index bytes 0
 
 -- two bytes to a file id
 abbrev pub ids_of : List ℕ → Option (List ℕ)

@@ -91,8 +91,8 @@ is_path path = is_between 1 3 (length path) && not (is_one_of master_file path)
 abbrev pub with_path : FileSpec → Result FileSpec Why
 with_path file = if is_path file.path then Ok file else Err why.Path
 
-abbrev pub path : List ℕ → Result (List ℕ) Why
-path ids = if is_path ids then Ok ids else Err why.Path
+abbrev pub path_of : List ℕ → Result (List ℕ) Why
+path_of ids = if is_path ids then Ok ids else Err why.Path
 
 -- the two are different files, and neither is a directory of the other
 abbrev pub are_apart : FileSpec → FileSpec → Bool
@@ -114,3 +114,6 @@ is_template bytes = is_ok (read_fcp bytes)
 -- each record has the stated length, and control parameters of its own are none that can be read
 abbrev pub has_shape : FileSpec → Bool
 has_shape file = has_rows file.kind && not (has_value is_template file.fcp)
+
+abbrev pub have_shape : List FileSpec → Bool
+have_shape files = list_all has_shape files

@@ -1,4 +1,5 @@
 pub mod Reading
+pub mod Answers
 pub mod Fields
 pub mod Files
 pub mod Cards

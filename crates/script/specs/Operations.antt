@@ -1,7 +1,7 @@
 -- The operations of an actor: what JSON says of each, and the rules that it keeps.
 use Rattle.std.specs.Prelude.{ℕ, ◌+◌, ◌&&◌, Bool, true, nat_lt, nat_le, if◌then◌else◌, List, [], ◌∷◌, length, Result, Ok, Err, codes}
 use Rattle.std.specs.List.{list_all}
-use Rattle.apdu.specs.Words.{is_one_of, same_bytes}
+use Rattle.apdu.specs.Words.{is_between, is_one_of, same_bytes}
 use Rattle.apdu.specs.Values.{CommandValue}
 use Rattle.apdu.specs.Apdu.{read_command}
 use Rattle.apdu.specs.declared.command.ApduError.{ApduError}
@@ -11,7 +11,7 @@ use Rattle.script.specs.declared.error.Why.TheVariants as why
 use Rattle.script.specs.declared.types.Operation.{Operation}
 use Rattle.script.specs.declared.types.Operation.TheVariants as operation
 use Rattle.script.specs.Reading.{◌>>=◌, rule}
-use Rattle.script.specs.Fields.{text, whole_to, hex, hex_of, hex_byte, hex_between, list, field, optional, only}
+use Rattle.script.specs.Fields.{text, whole_to, hex, hex_of, first_byte, list, field, optional, only}
 use Rattle.script.specs.Pairing.{are_paired}
 
 -- ---- values
@@ -26,7 +26,7 @@ family_named name =
 -- a family of files by its name
 abbrev pub family : Data → Result ℕ Why
 family d = do
-  name ← text d
+  name ← field text (codes "family") d
   family_named name
 
 abbrev pub of_raw_class : Result CommandValue ApduError → Result CommandValue Why
@@ -47,11 +47,6 @@ insert d = do
   card ← field (whole_to 255) (codes "card") d
   Ok (operation.Insert card)
 
-abbrev pub out : Data → Result Operation Why
-out d = do
-  known ← only (codes "op" ∷ []) d
-  Ok operation.Out
-
 abbrev pub arm : Data → Result Operation Why
 arm d = do
   known ← only (codes "change" ∷ codes "op" ∷ []) d
@@ -61,13 +56,13 @@ arm d = do
 abbrev pub load : Data → Result Operation Why
 load d = do
   known ← only (codes "family" ∷ codes "op" ∷ []) d
-  files ← field family (codes "family") d
+  files ← family d
   Ok (operation.Load files)
 
 abbrev pub set_entry : Data → Result Operation Why
 set_entry d = do
   known ← only (codes "at" ∷ codes "family" ∷ codes "name" ∷ codes "number" ∷ codes "op" ∷ []) d
-  files ← field family (codes "family") d
+  files ← family d
   row ← optional (whole_to 255) (codes "at") d
   name ← field text (codes "name") d
   number ← field text (codes "number") d
@@ -76,18 +71,23 @@ set_entry d = do
 abbrev pub clear : Data → Result Operation Why
 clear d = do
   known ← only (codes "at" ∷ codes "family" ∷ codes "op" ∷ []) d
-  files ← field family (codes "family") d
+  files ← family d
   row ← field (whole_to 255) (codes "at") d
   Ok (operation.Clear files row)
 
+-- a number up to 15 that names a channel
 abbrev pub handle : Data → Result ℕ Why
-handle d = field (whole_to 15) (codes "ref") d
+handle d = do
+  ref ← field (whole_to 255) (codes "ref") d
+  few ← rule why.Form (nat_le ref 15)
+  Ok ref
 
 abbrev pub open_channel : Data → Result Operation Why
 open_channel d = do
   known ← only (codes "aid" ∷ codes "op" ∷ codes "ref" ∷ []) d
   ref ← handle d
-  aid ← field (hex_between 5 16) (codes "aid") d
+  aid ← field hex (codes "aid") d
+  size ← rule why.Form (is_between 5 16 (length aid))
   Ok (operation.OpenChannel ref aid)
 
 abbrev pub raw : Data → Result Operation Why
@@ -106,15 +106,15 @@ close d = do
 abbrev pub verify : Data → Result Operation Why
 verify d = do
   known ← only (codes "key" ∷ codes "op" ∷ codes "pin" ∷ []) d
-  key ← field hex_byte (codes "key") d
+  key ← field (hex_of 1) (codes "key") d
   pin ← field (hex_of 8) (codes "pin") d
-  Ok (operation.Verify key pin)
+  Ok (operation.Verify (first_byte key) pin)
 
 abbrev pub end_session : Data → Result Operation Why
 end_session d = do
   known ← only (codes "key" ∷ codes "op" ∷ []) d
-  key ← field hex_byte (codes "key") d
-  Ok (operation.End key)
+  key ← field (hex_of 1) (codes "key") d
+  Ok (operation.End (first_byte key))
 
 -- an operation without fields of its own
 abbrev pub alone : Operation → Data → Result Operation Why

@@ -1,6 +1,5 @@
 -- What an actor is given, it gives back; and it takes notices only once it watches.
-use Rattle.std.specs.Prelude.{ℕ, ◌==◌, ◌&&◌, not, Bool, true, false, nat_le, List, [], ◌∷◌}
-use Rattle.std.specs.List.{list_any, count_by, take_while}
+use Rattle.std.specs.Prelude.{ℕ, ◌+◌, ◌==◌, ◌&&◌, ◌||◌, not, Bool, true, false, if◌then◌else◌, List, [], ◌∷◌}
 use Rattle.script.specs.declared.types.Operation.{Operation}
 use Rattle.script.specs.declared.types.Operation.TheVariants as operation
 
@@ -22,9 +21,13 @@ abbrev pub ends_session : ℕ → Operation → Bool
 ends_session key (operation.End k) = k == key
 ends_session key _ = false
 
--- exactly one operation ends, before the next one that begins
+-- how many operations end it, before the next one that begins it
+abbrev pub ends_before_next : (Operation → Bool) → (Operation → Bool) → List Operation → ℕ
+ends_before_next begins ends [] = 0
+ends_before_next begins ends (op ∷ later) = if begins op then 0 else (if ends op then 1 else 0) + ends_before_next begins ends later
+
 abbrev pub ends_once : (Operation → Bool) → (Operation → Bool) → List Operation → Bool
-ends_once begins ends operations = count_by ends (take_while (λ op. not (begins op)) operations) == 1
+ends_once begins ends later = ends_before_next begins ends later == 1
 
 -- what this operation asks for is given back exactly once before it is asked for again
 abbrev pub is_given_back : Operation → List Operation → Bool
@@ -44,9 +47,10 @@ abbrev pub is_notices : Operation → Bool
 is_notices operation.Notices = true
 is_notices _ = false
 
--- at most one watch, and no notices before it
-abbrev pub is_watching_once : List Operation → Bool
-is_watching_once operations = nat_le (count_by is_watch operations) 1 && not (list_any is_notices (take_while (λ op. not (is_watch op)) operations))
+-- at most one watch, and no notices before it; `watching` says that there was one
+abbrev pub is_watching_once : Bool → List Operation → Bool
+is_watching_once watching [] = true
+is_watching_once watching (op ∷ later) = not (is_watch op && watching) && (watching || not (is_notices op)) && is_watching_once (watching || is_watch op) later
 
 abbrev pub are_paired : List Operation → Bool
-are_paired operations = are_given_back operations && is_watching_once operations
+are_paired operations = are_given_back operations && is_watching_once false operations

@@ -1,5 +1,5 @@
 -- The parts of a script, in the order in which they are read: the first item that breaks a rule is named.
-use Rattle.std.specs.Prelude.{ℕ, ◌==◌, nat_lt, nat_le, List, [], ◌∷◌, ◌++◌, length, Option, Some, None, option_and_then, Result, Ok, Err, codes}
+use Rattle.std.specs.Prelude.{ℕ, ◌==◌, nat_lt, nat_le, List, [], ◌∷◌, ◌++◌, ◌-◌, slice_get, length, Option, Some, None, option_and_then, Result, Ok, Err, codes}
 use Rattle.apdu.specs.Words.{is_between}
 use Rattle.card_model.specs.declared.world.Fault.{Fault}
 use Rattle.serde_json.specs.Data.{Data}
@@ -64,11 +64,13 @@ turn_item actors before d = do
   target ← rule why.Target (nat_le actor actors)
   Ok actor
 
--- the number of the last call that fails
+abbrev pub call_of : Option Fault → ℕ
+call_of None = 0
+call_of (Some fault) = fault.at
+
+-- the number of the last call that fails, or 0
 abbrev pub last_call : List Fault → ℕ
-last_call [] = 0
-last_call (fault ∷ []) = fault.at
-last_call (fault ∷ next ∷ faults) = last_call (next ∷ faults)
+last_call faults = call_of (slice_get faults (length faults - 1))
 
 abbrev pub fault_form : Data → Result Fault Why
 fault_form d = do

@@ -1,5 +1,7 @@
 // Why bytes are no script.
 
+use apdu::Memory;
+
 /// A part of a script, in the order in which the parts are read.
 #[derive(Clone, Copy, Debug, PartialEq, Eq)]
 pub enum Part {
@@ -46,4 +48,35 @@ pub enum ScriptError {
     Refused { part: Part, index: u32, why: Why },
     /// Memory ran out.
     Memory,
+}
+
+/// Why an item cannot be read.
+#[derive(Clone, Copy, Debug, PartialEq, Eq)]
+pub(crate) enum ItemError {
+    /// The first rule that it breaks.
+    Broken(Why),
+    /// Memory ran out.
+    Memory,
+}
+
+impl From<Memory> for ItemError {
+    ghost use Rattle.std.specs.Prelude.{◌≡◌};
+    ghost use Rattle.script.specs.declared.error.ItemError.{ItemError};
+
+    ghost from_gives = { λ _ error. error ≡ ItemError.Memory };
+
+    fn from(_: Memory) -> Self {
+        ItemError::Memory
+    }
+}
+
+impl From<Memory> for ScriptError {
+    ghost use Rattle.std.specs.Prelude.{◌≡◌};
+    ghost use Rattle.script.specs.declared.error.ScriptError.{ScriptError};
+
+    ghost from_gives = { λ _ error. error ≡ ScriptError.Memory };
+
+    fn from(_: Memory) -> Self {
+        ScriptError::Memory
+    }
 }
