@@ -7,3 +7,5 @@ pub mod Operations
 pub mod Pairing
 pub mod Parts
 pub mod Scripts
+pub mod Writing
+pub mod Objects

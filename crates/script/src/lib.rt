@@ -9,7 +9,9 @@ mod operations;
 mod pairing;
 mod parts;
 mod read;
+mod to_json;
 mod types;
+mod write;
 
 pub use error::{Part, ScriptError, Why};
 pub use read::read_script;
@@ -17,3 +19,4 @@ pub use types::{
     ActorNumbers, ActorSpecs, CardSpec, CardSpecs, ChangeSpec, ChangeSpecs, FileSpec, FileSpecs,
     KeySpec, KeySpecs, KindSpec, Operation, Operations, RowSpecs, Script,
 };
+pub use write::write_script;
