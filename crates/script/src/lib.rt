@@ -17,3 +17,6 @@ pub use types::{
     ActorNumbers, ActorSpecs, CardSpec, CardSpecs, ChangeSpec, ChangeSpecs, FileSpec, FileSpecs,
     KeySpec, KeySpecs, KindSpec, Operation, Operations, RowSpecs, Script,
 };
+
+#[cfg(test)]
+mod tests;
