@@ -7,3 +7,4 @@ pub mod Operations
 pub mod Pairing
 pub mod Parts
 pub mod Scripts
+pub mod Rules
