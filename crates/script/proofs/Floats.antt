@@ -88,16 +88,16 @@ path_whole p = refl
 file_fields_whole : (f : FileSpec) → Whole (spec.file_fields f)
 file_fields_whole f =
     put_whole (codes "path") (spec.path_data f.path) _ refl
-      (some_whole spec.hex_data hex_whole (codes "fcp") f.fcp _
-        (unless_whole (not f.endless) (codes "endless") (boolean f.endless) _ refl
-          (some_whole spec.reference_data reference_whole (codes "arr") f.arr _
-            (unless_whole f.active (codes "active") (boolean f.active) no_members refl none))))
+    (some_whole spec.hex_data hex_whole (codes "fcp") f.fcp _
+    (unless_whole (not f.endless) (codes "endless") (boolean f.endless) _ refl
+    (some_whole spec.reference_data reference_whole (codes "arr") f.arr _
+    (unless_whole f.active (codes "active") (boolean f.active) no_members refl none))))
 
 kind_whole : (k : KindSpec) (fields : Members) → Whole fields → Whole (spec.with_kind k fields)
 kind_whole (Transparent bytes) fields x = put_whole (codes "kind") _ _ refl (put_whole (codes "data") (spec.hex_data bytes) fields refl x)
 kind_whole (Linear len rows) fields x =
     put_whole (codes "records") (spec.list_data spec.hex_data rows) _ (list_whole spec.hex_data hex_whole rows)
-      (put_whole (codes "len") (spec.number_data len) _ refl (put_whole (codes "kind") _ fields refl x))
+    (put_whole (codes "len") (spec.number_data len) _ refl (put_whole (codes "kind") _ fields refl x))
 
 file_whole : plain spec.file_data
 unfolding spec.file_data
@@ -107,25 +107,25 @@ key_whole : plain spec.key_data
 unfolding spec.key_data
 key_whole k =
     (put_whole (codes "tries") (spec.number_data k.tries) _ refl
-      (put_whole (codes "pin") (spec.hex_data k.pin) _ refl
-        (put_whole (codes "max") (spec.number_data k.max) _ refl (put_whole (codes "key") (spec.byte_data k.key) no_members refl none)))).is
+    (put_whole (codes "pin") (spec.hex_data k.pin) _ refl
+    (put_whole (codes "max") (spec.number_data k.max) _ refl (put_whole (codes "key") (spec.byte_data k.key) no_members refl none)))).is
 
 card_whole : plain spec.card_data
 unfolding spec.card_data
 card_whole c =
     (filled_whole spec.key_data key_whole (codes "keys") c.keys _
-      (unless_whole (not c.get_response) (codes "get_response") (boolean c.get_response) _ refl
-        (put_whole (codes "files") (spec.list_data spec.file_data c.files) _ (list_whole spec.file_data file_whole c.files)
-          (unless_whole _ (codes "channels") (spec.number_data c.channels) _ refl
-            (filled_whole spec.hex_data hex_whole (codes "aids") c.aids no_members none))))).is
+    (unless_whole (not c.get_response) (codes "get_response") (boolean c.get_response) _ refl
+    (put_whole (codes "files") (spec.list_data spec.file_data c.files) _ (list_whole spec.file_data file_whole c.files)
+    (unless_whole _ (codes "channels") (spec.number_data c.channels) _ refl
+    (filled_whole spec.hex_data hex_whole (codes "aids") c.aids no_members none))))).is
 
 change_whole : plain spec.change_data
 unfolding spec.change_data
 change_whole c =
     (unless_whole _ (codes "type") (spec.number_data c.kind) _ refl
-      (put_whole (codes "qualifier") (spec.number_data c.qualifier) _ refl
-        (filled_whole spec.path_data path_whole (codes "list") c.list _
-          (filled_whole spec.file_data file_whole (codes "files") c.files no_members none)))).is
+    (put_whole (codes "qualifier") (spec.number_data c.qualifier) _ refl
+    (filled_whole spec.path_data path_whole (codes "list") c.list _
+    (filled_whole spec.file_data file_whole (codes "files") c.files no_members none)))).is
 
 fault_whole : plain spec.fault_data
 unfolding spec.fault_data
@@ -138,8 +138,8 @@ own_whole (operation.Arm change) fields x = put_whole (codes "change") (spec.num
 own_whole (operation.Load family) fields x = put_whole (codes "family") _ fields refl x
 own_whole (operation.Set family row name digits) fields x =
     put_whole (codes "number") (string digits) _ refl
-      (put_whole (codes "name") (string name) _ refl
-        (put_whole (codes "family") _ _ refl (some_whole spec.number_data number_whole (codes "at") row fields x)))
+    (put_whole (codes "name") (string name) _ refl
+    (put_whole (codes "family") _ _ refl (some_whole spec.number_data number_whole (codes "at") row fields x)))
 own_whole (operation.Clear family row) fields x = put_whole (codes "family") _ _ refl (put_whole (codes "at") (spec.number_data row) fields refl x)
 own_whole (operation.OpenChannel ref aid) fields x = put_whole (codes "ref") (spec.number_data ref) _ refl (put_whole (codes "aid") (spec.hex_data aid) fields refl x)
 own_whole (operation.Raw ref command) fields x = put_whole (codes "ref") (spec.number_data ref) _ refl (put_whole (codes "apdu") _ fields refl x)
@@ -162,9 +162,9 @@ pub script_whole : (s : Script) → has_float (spec.script_data s) ≡ false
 unfolding spec.script_data
 script_whole s =
     (put_whole (codes "version") (spec.number_data s.version) _ refl
-      (filled_whole spec.number_data number_whole (codes "schedule") s.schedule _
-        (filled_whole spec.fault_data fault_whole (codes "faults") s.faults _
-          (filled_whole spec.change_data change_whole (codes "changes") s.changes _
-            (put_whole (codes "cards") (spec.list_data spec.card_data s.cards) _ (list_whole spec.card_data card_whole s.cards)
-              (some_whole spec.number_data number_whole (codes "budget") s.budget _
-                (put_whole (codes "actors") (spec.list_data (spec.list_data spec.operation_data) s.actors) no_members (list_whole (spec.list_data spec.operation_data) actor_whole s.actors) none))))))).is
+    (filled_whole spec.number_data number_whole (codes "schedule") s.schedule _
+    (filled_whole spec.fault_data fault_whole (codes "faults") s.faults _
+    (filled_whole spec.change_data change_whole (codes "changes") s.changes _
+    (put_whole (codes "cards") (spec.list_data spec.card_data s.cards) _ (list_whole spec.card_data card_whole s.cards)
+    (some_whole spec.number_data number_whole (codes "budget") s.budget _
+    (put_whole (codes "actors") (spec.list_data (spec.list_data spec.operation_data) s.actors) no_members (list_whole (spec.list_data spec.operation_data) actor_whole s.actors) none))))))).is

@@ -2,3 +2,5 @@ pub mod Counts
 pub mod Lists
 pub mod Texts
 pub mod Floats
+pub mod Kept
+pub mod Values

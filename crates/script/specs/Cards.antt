@@ -13,7 +13,7 @@ use Rattle.script.specs.declared.types.CardSpec.{CardSpec}
 use Rattle.script.specs.declared.types.ChangeSpec.{ChangeSpec}
 use Rattle.script.specs.Reading.{◌>>=◌, all_of, rule}
 use Rattle.script.specs.Fields.{flag, whole_to, hex, first_byte, hex_of, ids, list, field, with_default, only}
-use Rattle.script.specs.Files.{file_form, are_files_within, path_of, with_path, are_all_apart, have_shape}
+use Rattle.script.specs.Files.{file_form, are_files_within, path_of, with_path, is_path, are_all_apart, are_placed, have_shape}
 
 -- ---- keys
 
@@ -73,29 +73,32 @@ card_with_paths form = do
   apart ← rule why.Path (are_all_apart files)
   Ok (record form { files = files })
 
--- a card, behind the cards before it
-unfoldable pub card_item : List CardSpec → Data → Result CardSpec Why
-card_item before d = do
-  form ← card_form d
+-- the rules of a card, behind those of its form
+abbrev pub checked_card : List CardSpec → CardSpec → Result CardSpec Why
+checked_card before form = do
   limit ← rule why.Limit (nat_lt (length before) 4 && is_card_within form)
   card ← card_with_paths form
   shape ← rule why.Shape (has_card_shape card)
   Ok card
 
--- ---- changes
+-- a card, behind the cards before it
+unfoldable pub card_item : List CardSpec → Data → Result CardSpec Why
+card_item before d = do
+  form ← card_form d
+  checked_card before form
 
--- a list of at most eight paths
-abbrev pub path_list : Data → Result (List (List ℕ)) Why
-path_list d = do
-  paths ← list ids d
-  if nat_le (length paths) 8 then Ok paths else Err why.Form
+-- a card that keeps the rules of a card
+abbrev pub is_card : CardSpec → Bool
+is_card card = is_card_within card && are_placed card.files && has_card_shape card
+
+-- ---- changes
 
 unfoldable pub change_form : Data → Result ChangeSpec Why
 change_form d = do
   known ← only (codes "files" ∷ codes "list" ∷ codes "qualifier" ∷ codes "type" ∷ []) d
   qualifier ← field (whole_to 255) (codes "qualifier") d
   kind ← with_default 1 (whole_to 255) (codes "type") d
-  paths ← with_default [] path_list (codes "list") d
+  paths ← with_default [] (list ids) (codes "list") d
   files ← with_default [] (list file_form) (codes "files") d
   Ok (record { qualifier = qualifier; kind = kind; list = paths; files = files })
 
@@ -121,12 +124,28 @@ change_with_paths form = do
   apart ← rule why.Path (are_all_apart files)
   Ok (record form { list = list; files = files })
 
--- a change, behind the changes before it
-unfoldable pub change_item : List ChangeSpec → Data → Result ChangeSpec Why
-change_item before d = do
-  form ← change_form d
+-- the rules of a change, behind those of its form; a list has at most eight paths
+abbrev pub checked_change : List ChangeSpec → ChangeSpec → Result ChangeSpec Why
+checked_change before form = do
+  few ← rule why.Form (nat_le (length form.list) 8)
   limit ← rule why.Limit (nat_lt (length before) 64 && are_files_within form.files)
   change ← change_with_paths form
   shape ← rule why.Shape (have_shape change.files)
   honest ← rule why.Honest (is_honest change)
   Ok change
+
+-- a change, behind the changes before it
+unfoldable pub change_item : List ChangeSpec → Data → Result ChangeSpec Why
+change_item before d = do
+  form ← change_form d
+  checked_change before form
+
+abbrev pub is_change_within : ChangeSpec → Bool
+is_change_within change = nat_le (length change.list) 8 && are_files_within change.files
+
+abbrev pub is_change_placed : ChangeSpec → Bool
+is_change_placed change = list_all is_path change.list && are_placed change.files
+
+-- a change that keeps the rules of a change
+abbrev pub is_change : ChangeSpec → Bool
+is_change change = is_change_within change && is_change_placed change && have_shape change.files && is_honest change

@@ -88,6 +88,9 @@ are_files_within files = nat_le (length files) 64 && list_all is_file_within fil
 abbrev pub is_path : List ℕ → Bool
 is_path path = is_between 1 3 (length path) && not (is_one_of master_file path)
 
+abbrev pub has_path : FileSpec → Bool
+has_path file = is_path file.path
+
 abbrev pub with_path : FileSpec → Result FileSpec Why
 with_path file = if is_path file.path then Ok file else Err why.Path
 
@@ -101,6 +104,10 @@ are_apart a b = not (is_prefix a.path b.path) && not (is_prefix b.path a.path)
 abbrev pub are_all_apart : List FileSpec → Bool
 are_all_apart [] = true
 are_all_apart (file ∷ files) = list_all (are_apart file) files && are_all_apart files
+
+-- each path is one, and the files stand apart
+abbrev pub are_placed : List FileSpec → Bool
+are_placed files = list_all has_path files && are_all_apart files
 
 -- ---- shapes
 

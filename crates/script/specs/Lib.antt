@@ -9,3 +9,4 @@ pub mod Parts
 pub mod Scripts
 pub mod Writing
 pub mod Objects
+pub mod Rules

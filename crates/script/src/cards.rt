@@ -1,5 +1,5 @@
 // Cards and changes, as JSON says them and with the rules that they keep.
-ghost use Rattle.std.specs.Prelude.{◌≡◌, []};
+ghost use Rattle.std.specs.Prelude.{◌≡◌};
 ghost use Rattle.std.specs.List.{list_all};
 ghost use Rattle.serde_json.specs.View.{view};
 ghost use Rattle.script.specs.Cards as spec;
@@ -194,54 +194,15 @@ impl Item for CardSpec {
     ghost small = { Prim.search rules };
 }
 
-/// A list of at most eight paths, of which only the form is known.
-#[derive(Drop)]
-struct PathForms {
-    items: Sequence<Ids>,
-}
-
-impl Model for PathForms {
-    ghost use Rattle.std.specs.Prelude.{List, ℕ};
-
-    ghost Value = { List (List ℕ) };
-
-    ghost view = { λ p. p.items };
-}
-
-impl FromJson for PathForms {
-    ghost use Rattle.script.specs.Cards.{path_list};
-
-    ghost form = { path_list };
-
-    fn from_json(alloc: Global, value: &Value) -> Result<PathForms, ItemError> {
-        let items: Sequence<Ids> = FromJson::from_json(alloc, value)?;
-        if items.len() <= 8 {
-            Ok(PathForms { items })
-        } else {
-            Err(ItemError::Broken(Why::Form))
-        }
+/// The paths of a list, where each is one.
+fn path_list(alloc: Global, list: &[Ids]) -> Result<PathList, ItemError>
+    ensures { ReadsAs (all_of path_reading list.now) result }
+{
+    let mut out = Sequence::new(alloc);
+    for ids in list {
+        out.push(path_of(ids.as_slice())?)?;
     }
-}
-
-impl PathForms {
-    fn new(alloc: Global) -> PathForms
-        ensures { result ≡ [] }
-    {
-        PathForms {
-            items: Sequence::new(alloc),
-        }
-    }
-
-    /// The paths, where each is one.
-    fn with_paths(&self, alloc: Global) -> Result<PathList, ItemError>
-        ensures { ReadsAs (all_of path_reading self.now) result }
-    {
-        let mut out = Sequence::new(alloc);
-        for ids in self.items.as_slice() {
-            out.push(path_of(ids.as_slice())?)?;
-        }
-        Ok(out)
-    }
+    Ok(out)
 }
 
 /// A change of which only the form is known. Contracts see it as a change.
@@ -249,7 +210,7 @@ impl PathForms {
 pub(crate) struct ChangeForm {
     qualifier: u8,
     kind: u8,
-    list: PathForms,
+    list: Sequence<Ids>,
     files: Sequence<FileForm>,
 }
 
@@ -271,7 +232,7 @@ impl FromJson for ChangeForm {
         only(value, &["files", "list", "qualifier", "type"])?;
         let qualifier = field(alloc, value, "qualifier")?;
         let kind = with_default(alloc, value, "type", 1)?;
-        let list = with_default(alloc, value, "list", PathForms::new(alloc))?;
+        let list = with_default(alloc, value, "list", Sequence::new(alloc))?;
         let files = with_default(alloc, value, "files", Sequence::new(alloc))?;
         Ok(ChangeForm {
             qualifier,
@@ -293,7 +254,7 @@ impl ChangeForm {
             list,
             files,
         } = self;
-        let list = list.with_paths(alloc)?;
+        let list = path_list(alloc, list.as_slice())?;
         let files = with_paths(alloc, files)?;
         check(are_all_apart(files.as_slice()), Why::Path)?;
         Ok(ChangeSpec {
@@ -347,6 +308,7 @@ impl Item for ChangeSpec {
         value: &Value,
     ) -> Result<ChangeSpec, ItemError> {
         let form = ChangeForm::from_json(alloc, value)?;
+        check(form.list.len() <= 8, Why::Form)?;
         check(
             before.len() < 64 && are_files_within(form.files.as_slice()),
             Why::Limit,

@@ -20,3 +20,6 @@ pub use types::{
     KeySpec, KeySpecs, KindSpec, Operation, Operations, RowSpecs, Script,
 };
 pub use write::write_script;
+
+#[cfg(test)]
+mod tests;

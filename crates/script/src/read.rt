@@ -1,8 +1,9 @@
 // A script from its bytes.
-ghost use Rattle.std.specs.Prelude.{◌≡◌, length};
+ghost use Rattle.std.specs.Prelude.{IfOk};
 ghost use Rattle.serde_json.specs.View.{view};
 ghost use Rattle.script.specs.Parts as spec;
 ghost use Rattle.script.specs.Scripts.{script_of_parts, script_of_data, script_of_bytes};
+ghost use Rattle.script.specs.Rules.{KeepsCardRules};
 ghost use Rattle.script.specs.Answers.{ReadsAs, AnswersAs};
 
 use crate::error::ItemError;
@@ -116,7 +117,8 @@ fn script_of_value(alloc: Global, value: &Value) -> Result<Script, ScriptError>
 /// The script that the bytes are, or the first rule that they break.
 #[tactic(auto, using(crate::proofs::Texts::refused_text))]
 pub fn read_script(alloc: Global, bytes: &[u8]) -> Result<Script, ScriptError>
-    ensures { AnswersAs (script_of_bytes bytes.now) result }
+    ensures value { AnswersAs (script_of_bytes bytes.now) result }
+    ensures rules { IfOk result KeepsCardRules }
 {
     match Value::from_slice(alloc, bytes) {
         Ok(value) => script_of_value(alloc, &value),

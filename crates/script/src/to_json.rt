@@ -197,7 +197,11 @@ impl Fields {
     }
 
     /// Puts a value, where there is one.
-    pub(crate) fn put_some<T: ToJson>(&mut self, name: &str, value: &Option<T>) -> Result<(), Memory>
+    pub(crate) fn put_some<T: ToJson>(
+        &mut self,
+        name: &str,
+        value: &Option<T>,
+    ) -> Result<(), Memory>
         ensures { OnOk result (members self.new ≡ spec.with_some name.now (option_map T.written value.now) (members self.old)) }
     {
         match value {
