@@ -1,5 +1,5 @@
 -- A value that was read is read again from what is written of it.
-use Rattle.std.proofs.Common.{◌≡◌, ℕ, ◌*◌, ◌<◌, ◌==◌, Bool, true, false, if◌then◌else◌, List, [], ◌∷◌, ◌++◌, length, map, flat_map, Option, Some, None, Result, Ok, Err, refl, sym, ap, subst, ◌∙◌, arith, rules}
+use Rattle.std.proofs.Common.{◌≡◌, ℕ, zero, suc, ◌+◌, ◌*◌, ◌/◌, ◌%◌, ◌<◌, Bool, true, false, if◌then◌else◌, List, [], ◌∷◌, ◌++◌, length, map, flat_map, Option, Some, None, Result, Ok, Err, refl, sym, ap, subst, ◌∙◌, arith, rules}
 use Rattle.std.specs.Prelude.{nat_le, option_map, slice_index}
 use Rattle.apdu.specs.Words.{pair_value, two_bytes}
 use Rattle.fcp.specs.declared.control.ArrRef.{ArrRef}
@@ -12,7 +12,7 @@ use Rattle.serde_json.specs.View.{items_of}
 use Rattle.script.specs.declared.error.Why.{Why}
 use Rattle.script.specs.declared.error.Why.TheVariants.{Form}
 use Rattle.script.specs.Reading.{◌>>=◌, all_of}
-use Rattle.script.specs.Fields.{there, flag, text, whole, whole_to, decoded, hex, hex_of, first_byte, ids_of, ids, item_list, list}
+use Rattle.script.specs.Fields.{there, flag, text, whole, whole_to, decoded, hex, hex_of, first_byte, ids_of, ids, item_list, list_of, list}
 use Rattle.script.specs.Files.{reference, reference_of}
 use Rattle.script.specs.Writing as spec
 use Rattle.script.proofs.Kept.{bind_gives}
@@ -89,3 +89,73 @@ byte_again bytes readable =
     let found = sized_bytes 1 bytes readable in
     let P : List ℕ → Type 0 = λ xs. hex_of 1 (spec.hex_data xs) ≡ Ok xs in
     subst P (only_byte bytes found.0) (sized_written 1 bytes found.0 found.1)
+
+-- ---- file ids
+
+pair_back : (high low : ℕ) → high < 256 → low < 256 → two_bytes (pair_value high low) ≡ high ∷ low ∷ []
+pair_back high low h l =
+    let up : (high * 256 + low) / 256 ≡ high = omega (arith, h, l) in
+    let down : (high * 256 + low) % 256 ≡ low = omega (arith, h, l) in
+    rw (up, down) refl
+
+mapped : {A B : Type 0} (f : A → B) (o : Option A) (y : B) (P : Type 0) → option_map f o ≡ Some y → ((x : A) → o ≡ Some x → f x ≡ y → P) → P
+mapped f None y P e k = absurd (cc)
+mapped f (Some x) y P e k = k x refl cc
+
+-- the bytes of the ids are those that were read
+ids_bytes : (bytes path : List ℕ) → IsBytes bytes → ids_of bytes ≡ Some path → flat_map two_bytes path ≡ bytes
+ids_bytes [] path b e =
+    let none : [] ≡ path = cc in
+    subst (λ (p : List ℕ). flat_map two_bytes p ≡ []) none refl
+ids_bytes (x ∷ []) path b e = absurd (cc)
+ids_bytes (high ∷ low ∷ bytes) path b e =
+    mapped (λ (rest : List ℕ). pair_value high low ∷ rest) (ids_of bytes) path (flat_map two_bytes path ≡ high ∷ low ∷ bytes) e (λ rest of_rest same.
+    let more = ids_bytes bytes rest (λ i. b (suc (suc i))) of_rest in
+    subst (λ (p : List ℕ). flat_map two_bytes p ≡ high ∷ low ∷ bytes) same
+    (ap (λ (ys : List ℕ). ys ++ flat_map two_bytes rest) (pair_back high low (b 0) (b 1)) ∙ ap (λ (ys : List ℕ). high ∷ low ∷ ys) more))
+
+there_ok : {A : Type 0} (o : Option A) (x : A) → there o ≡ Ok x → o ≡ Some x
+there_ok None x e = absurd (cc)
+there_ok (Some y) x e = cc
+
+pub ids_again : Again ids spec.path_data
+ids_again path readable =
+    bind_gives (hex readable.0) _ path (ids (spec.path_data path) ≡ Ok path) readable.1 (λ bytes of_bytes e.
+    let are_bytes = hex_bytes bytes (readable.0, of_bytes) in
+    let some = there_ok (ids_of bytes) path e in
+    rw (ids_bytes bytes path are_bytes some, hex_written bytes are_bytes, some) refl)
+
+three : (bytes : List ℕ) → length bytes ≡ 3 → IsBytes bytes → two_bytes (reference_of bytes).file_id ++ (reference_of bytes).row ∷ [] ≡ bytes
+three (a ∷ b ∷ c ∷ []) e h = ap (λ (ys : List ℕ). ys ++ c ∷ []) (pair_back a b (h 0) (h 1))
+three [] e h = absurd (cc)
+three (a ∷ []) e h = absurd (omega (arith, e))
+three (a ∷ b ∷ []) e h = absurd (omega (arith, e))
+three (a ∷ b ∷ c ∷ d ∷ bytes) e h = absurd (omega (arith, e))
+
+pub reference_again : Again reference spec.reference_data
+reference_again r readable =
+    bind_gives (hex_of 3 readable.0) _ r (reference (spec.reference_data r) ≡ Ok r) readable.1 (λ bytes of_bytes e.
+    let found = sized_bytes 3 bytes (readable.0, of_bytes) in
+    let same : reference_of bytes ≡ r = cc in
+    subst (λ (r : ArrRef). reference (spec.reference_data r) ≡ Ok r) same (rw (three bytes found.0 found.1, sized_written 3 bytes found.0 found.1) refl))
+
+-- ---- lists
+
+item_list_of : (ds : List Data) → item_list (items_of ds) ≡ ds
+item_list_of [] = refl
+item_list_of (d ∷ ds) = ap (λ (xs : List Data). d ∷ xs) (item_list_of ds)
+
+pub all_again : {A : Type 0} (read : Data → Result A Why) (write : A → Data) → Again read write → (ds : List Data) (xs : List A) → all_of read ds ≡ Ok xs → all_of read (map write xs) ≡ Ok xs
+all_again read write again [] xs e =
+    let none : [] ≡ xs = cc in
+    subst (λ (ys : List _). all_of read (map write ys) ≡ Ok ys) none refl
+all_again read write again (d ∷ ds) xs e =
+    bind_gives (read d) _ xs (all_of read (map write xs) ≡ Ok xs) e (λ x of_x e1.
+    bind_gives (all_of read ds) _ xs (all_of read (map write xs) ≡ Ok xs) e1 (λ rest of_rest e2.
+    let same : x ∷ rest ≡ xs = cc in
+    subst (λ (ys : List _). all_of read (map write ys) ≡ Ok ys) same (rw (again x (d, of_x), all_again read write again ds rest of_rest) refl)))
+
+pub list_again : {A : Type 0} (read : Data → Result A Why) (write : A → Data) → Again read write → Again (list read) (spec.list_data write)
+list_again read write again xs readable =
+    bind_gives (there (list_of readable.0)) _ xs (list read (spec.list_data write xs) ≡ Ok xs) readable.1 (λ ds of_ds e.
+    rw (item_list_of (map write xs), all_again read write again ds xs e) refl)
