@@ -4,3 +4,4 @@ pub mod Texts
 pub mod Floats
 pub mod Kept
 pub mod Values
+pub mod Again
