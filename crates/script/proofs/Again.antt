@@ -1,22 +1,25 @@
 -- An object that was read is read again from what is written of it.
-use Rattle.std.proofs.Common.{◌≡◌, ℕ, ◌==◌, Bool, true, false, if◌then◌else◌, List, [], ◌∷◌, ◌++◌, length, map, Option, Some, None, Result, Ok, Err, refl, sym, ap, subst, ◌∙◌}
+use Rattle.std.proofs.Common.{◌≡◌, ℕ, zero, suc, ◌==◌, nat_eq, arith, Bool, true, false, if◌then◌else◌, List, [], ◌∷◌, ◌++◌, length, map, Option, Some, None, Result, Ok, Err, refl, sym, ap, subst, ◌∙◌}
 use Rattle.std.specs.Prelude.{codes, option_map, ⊤, ◌⊎◌}
 use Rattle.card_model.specs.declared.world.Fault.{Fault}
 use Rattle.serde_json.specs.Data.{Data, Members}
 use Rattle.serde_json.specs.Find.{get}
 use Rattle.script.specs.declared.error.Why.{Why}
 use Rattle.script.specs.declared.error.Why.TheVariants as why
+use Rattle.apdu.specs.Words.{same_bytes}
 use Rattle.fcp.specs.declared.control.ArrRef.{ArrRef}
 use Rattle.script.specs.declared.types.KeySpec.{KeySpec}
+use Rattle.script.specs.declared.types.CardSpec.{CardSpec}
+use Rattle.script.specs.declared.types.ChangeSpec.{ChangeSpec}
 use Rattle.script.specs.declared.types.FileSpec.{FileSpec}
 use Rattle.script.specs.declared.types.KindSpec.{KindSpec}
 use Rattle.script.specs.declared.types.KindSpec.TheVariants.{Transparent, Linear}
 use Rattle.script.specs.Files.{reference, transparent_fields, transparent, linear_fields, linear, kind_named, kind_form, file_form}
 use Rattle.script.specs.Reading.{◌>>=◌, all_of, rule}
 use Rattle.script.specs.Fields.{flag, whole_to, hex, hex_of, first_byte, text, ids, list, field_in, field, optional_in, optional, default_in, with_default, only}
-use Rattle.script.specs.Cards.{key_form, are_tries}
+use Rattle.script.specs.Cards.{key_form, are_tries, card_form, change_form}
 use Rattle.script.specs.Parts.{fault_form}
-use Rattle.script.specs.Writing.{number_data, hex_data, path_data, reference_data, list_data, key_data, fault_data, file_data}
+use Rattle.script.specs.Writing.{number_data, hex_data, path_data, reference_data, list_data, key_data, fault_data, file_data, card_data, change_data}
 use Rattle.script.proofs.Kept.{bind_gives}
 use Rattle.script.proofs.Values.{Readable, Again, ok_if, number_again, sized_again, byte_again, hex_again, ids_again, reference_again, list_again}
 
@@ -81,6 +84,11 @@ some_again read write again name d x e = some_field read write again (get name d
 
 -- ---- files
 
+-- one of two readings
+pub chosen : {A : Type 0} (b : Bool) (x y : Result A Why) (z : A) (P : Type 0) → (if b then x else y) ≡ Ok z → (x ≡ Ok z → P) → (y ≡ Ok z → P) → P
+chosen true x y z P e h k = h e
+chosen false x y z P e h k = k e
+
 abbrev KindAgain : KindSpec → Type 0
 KindAgain (Transparent bytes) = hex (hex_data bytes) ≡ Ok bytes
 KindAgain (Linear len rows) = (whole_to 65535 (number_data len) ≡ Ok len) × (list hex (list_data hex_data rows) ≡ Ok rows)
@@ -88,7 +96,7 @@ KindAgain (Linear len rows) = (whole_to 65535 (number_data len) ≡ Ok len) × (
 abbrev file_spec : List ℕ → KindSpec → Option ArrRef → Bool → Bool → Option (List ℕ) → FileSpec
 file_spec path kind arr active endless fcp = record { path = path; kind = kind; arr = arr; active = active; endless = endless; fcp = fcp }
 
-pub file_back : (path : List ℕ) (kind : KindSpec) (arr : Option ArrRef) (active endless : Bool) (fcp : Option (List ℕ))
+file_back : (path : List ℕ) (kind : KindSpec) (arr : Option ArrRef) (active endless : Bool) (fcp : Option (List ℕ))
     → ids (path_data path) ≡ Ok path → KindAgain kind → SomeAgain reference reference_data arr → SomeAgain hex hex_data fcp
     → file_form (file_data (file_spec path kind arr active endless fcp)) ≡ Ok (file_spec path kind arr active endless fcp)
 unfolding file_form file_data
@@ -124,3 +132,47 @@ file_back path (Linear len rows) (Some r) false true None p k a c = rw (k.0, k.1
 file_back path (Linear len rows) (Some r) false true (Some bs) p k a c = rw (k.0, k.1, p, a, c) refl
 file_back path (Linear len rows) (Some r) false false None p k a c = rw (k.0, k.1, p, a) refl
 file_back path (Linear len rows) (Some r) false false (Some bs) p k a c = rw (k.0, k.1, p, a, c) refl
+
+kind_again : (name : List ℕ) (d : Data) (kind : KindSpec) → kind_named name d ≡ Ok kind → KindAgain kind
+kind_again name d kind h =
+    chosen (same_bytes name (codes "transparent")) (transparent d) _ kind (KindAgain kind) h
+      (λ e. transparent_again d kind e)
+      (λ e. chosen (same_bytes name (codes "linear")) (linear d) (Err why.Form) kind (KindAgain kind) e (λ e1. linear_again d kind e1) (λ e1. absurd (cc)))
+  where
+    transparent_again : (d : Data) (kind : KindSpec) → transparent d ≡ Ok kind → KindAgain kind
+    transparent_again d kind h =
+        bind_gives (only transparent_fields d) _ kind (KindAgain kind) h (λ known of_known e.
+        bind_gives (field hex (codes "data") d) _ kind (KindAgain kind) e (λ bytes of_bytes e1.
+        let same : Transparent bytes ≡ kind = cc in
+        subst KindAgain same (hex_again bytes (field_gives hex (codes "data") d bytes of_bytes))))
+
+    linear_again : (d : Data) (kind : KindSpec) → linear d ≡ Ok kind → KindAgain kind
+    linear_again d kind h =
+        bind_gives (only linear_fields d) _ kind (KindAgain kind) h (λ known of_known e.
+        bind_gives (field (whole_to 65535) (codes "len") d) _ kind (KindAgain kind) e (λ len of_len e1.
+        bind_gives (field (list hex) (codes "records") d) _ kind (KindAgain kind) e1 (λ rows of_rows e2.
+        let same : Linear len rows ≡ kind = cc in
+        subst KindAgain same (
+          number_again 65535 len (field_gives (whole_to 65535) (codes "len") d len of_len),
+          list_again hex hex_data hex_again rows (field_gives (list hex) (codes "records") d rows of_rows)
+        ))))
+
+abbrev IsFileAgain : FileSpec → Type 0
+IsFileAgain f = file_form (file_data f) ≡ Ok f
+
+pub file_again : (f : FileSpec) → Readable file_form f → IsFileAgain f
+unfolding file_form
+file_again f (d, h) =
+    bind_gives (kind_form d) _ f (IsFileAgain f) h (λ kind of_kind e.
+    bind_gives (field ids (codes "path") d) _ f (IsFileAgain f) e (λ path of_path e1.
+    bind_gives (optional reference (codes "arr") d) _ f (IsFileAgain f) e1 (λ arr of_arr e2.
+    bind_gives (with_default true flag (codes "active") d) _ f (IsFileAgain f) e2 (λ active of_active e3.
+    bind_gives (with_default false flag (codes "endless") d) _ f (IsFileAgain f) e3 (λ endless of_endless e4.
+    bind_gives (optional hex (codes "fcp") d) _ f (IsFileAgain f) e4 (λ fcp of_fcp e5.
+    bind_gives (field text (codes "kind") d) _ kind (IsFileAgain f) of_kind (λ name of_name of_named.
+    let same : file_spec path kind arr active endless fcp ≡ f = cc in
+    subst IsFileAgain same (file_back path kind arr active endless fcp
+      (ids_again path (field_gives ids (codes "path") d path of_path))
+      (kind_again name d kind of_named)
+      (some_again reference reference_data reference_again (codes "arr") d arr of_arr)
+      (some_again hex hex_data hex_again (codes "fcp") d fcp of_fcp)))))))))
