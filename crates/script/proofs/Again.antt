@@ -176,3 +176,133 @@ file_again f (d, h) =
       (kind_again name d kind of_named)
       (some_again reference reference_data reference_again (codes "arr") d arr of_arr)
       (some_again hex hex_data hex_again (codes "fcp") d fcp of_fcp)))))))))
+
+-- ---- lists that may be left out
+
+abbrev ListAgain : {A : Type 0} → (Data → Result A Why) → (A → Data) → List A → Type 0
+ListAgain read write [] = ⊤
+ListAgain read write (x ∷ xs) = list read (list_data write (x ∷ xs)) ≡ Ok (x ∷ xs)
+
+filled : {A : Type 0} (read : Data → Result A Why) (write : A → Data) (xs : List A) → list read (list_data write xs) ≡ Ok xs → ListAgain read write xs
+filled read write [] e = tt
+filled read write (x ∷ xs) e = e
+
+list_field : {A : Type 0} (read : Data → Result A Why) (write : A → Data) → Again read write → (o : Option Data) (xs : List A) → default_in [] (list read) o ≡ Ok xs → ListAgain read write xs
+list_field read write again None xs e =
+    let none : [] ≡ xs = cc in
+    subst (λ (ys : List _). ListAgain read write ys) none tt
+list_field read write again (Some d) xs e = filled read write xs (list_again read write again xs (d, e))
+
+number_field : (default limit : ℕ) → whole_to limit (number_data default) ≡ Ok default → (o : Option Data) (n : ℕ) → default_in default (whole_to limit) o ≡ Ok n → whole_to limit (number_data n) ≡ Ok n
+number_field default limit here None n e =
+    let same : default ≡ n = cc in
+    subst (λ (m : ℕ). whole_to limit (number_data m) ≡ Ok m) same here
+number_field default limit here (Some d) n e = number_again limit n (d, e)
+
+-- ---- cards
+
+abbrev card_spec : List FileSpec → List (List ℕ) → List KeySpec → ℕ → Bool → CardSpec
+card_spec files aids keys channels get_response = record { files = files; aids = aids; keys = keys; channels = channels; get_response = get_response }
+
+abbrev IsCardAgain : CardSpec → Type 0
+IsCardAgain c = card_form (card_data c) ≡ Ok c
+
+abbrev FilesAgain : List FileSpec → Type 0
+FilesAgain files = list file_form (list_data file_data files) ≡ Ok files
+
+card_usual : (files : List FileSpec) (aids : List (List ℕ)) (keys : List KeySpec) (get_response : Bool)
+    → FilesAgain files → ListAgain hex hex_data aids → ListAgain key_form key_data keys → IsCardAgain (card_spec files aids keys 3 get_response)
+unfolding card_form card_data
+card_usual files [] [] true f h k = rw (f) refl
+card_usual files [] [] false f h k = rw (f) refl
+card_usual files [] (b ∷ bs) true f h k = rw (f, k) refl
+card_usual files [] (b ∷ bs) false f h k = rw (f, k) refl
+card_usual files (a ∷ more) [] true f h k = rw (f, h) refl
+card_usual files (a ∷ more) [] false f h k = rw (f, h) refl
+card_usual files (a ∷ more) (b ∷ bs) true f h k = rw (f, h, k) refl
+card_usual files (a ∷ more) (b ∷ bs) false f h k = rw (f, h, k) refl
+
+card_other : (files : List FileSpec) (aids : List (List ℕ)) (keys : List KeySpec) (n : ℕ) (get_response : Bool)
+    → FilesAgain files → ListAgain hex hex_data aids → ListAgain key_form key_data keys → (n == 3) ≡ false → whole_to 255 (number_data n) ≡ Ok n → IsCardAgain (card_spec files aids keys n get_response)
+unfolding card_form card_data
+card_other files [] [] n true f h k e w = rw (e, f, w) refl
+card_other files [] [] n false f h k e w = rw (e, f, w) refl
+card_other files [] (b ∷ bs) n true f h k e w = rw (e, f, k, w) refl
+card_other files [] (b ∷ bs) n false f h k e w = rw (e, f, k, w) refl
+card_other files (a ∷ more) [] n true f h k e w = rw (e, f, h, w) refl
+card_other files (a ∷ more) [] n false f h k e w = rw (e, f, h, w) refl
+card_other files (a ∷ more) (b ∷ bs) n true f h k e w = rw (e, f, h, k, w) refl
+card_other files (a ∷ more) (b ∷ bs) n false f h k e w = rw (e, f, h, k, w) refl
+
+card_back : (files : List FileSpec) (aids : List (List ℕ)) (keys : List KeySpec) (n : ℕ) (get_response usual : Bool)
+    → FilesAgain files → ListAgain hex hex_data aids → ListAgain key_form key_data keys → (n == 3) ≡ usual → whole_to 255 (number_data n) ≡ Ok n → IsCardAgain (card_spec files aids keys n get_response)
+card_back files aids keys n get_response true f h k e w =
+    let three : n ≡ 3 = grind arith in
+    subst (λ (m : ℕ). IsCardAgain (card_spec files aids keys m get_response)) (sym three) (card_usual files aids keys get_response f h k)
+card_back files aids keys n get_response false f h k e w = card_other files aids keys n get_response f h k e w
+
+pub card_again : (c : CardSpec) → Readable card_form c → IsCardAgain c
+unfolding card_form
+card_again c (d, h) =
+    bind_gives (only (codes "aids" ∷ codes "channels" ∷ codes "files" ∷ codes "get_response" ∷ codes "keys" ∷ []) d) _ c (IsCardAgain c) h (λ known of_known e.
+    bind_gives (field (list file_form) (codes "files") d) _ c (IsCardAgain c) e (λ files of_files e1.
+    bind_gives (with_default [] (list hex) (codes "aids") d) _ c (IsCardAgain c) e1 (λ aids of_aids e2.
+    bind_gives (with_default [] (list key_form) (codes "keys") d) _ c (IsCardAgain c) e2 (λ keys of_keys e3.
+    bind_gives (with_default 3 (whole_to 255) (codes "channels") d) _ c (IsCardAgain c) e3 (λ channels of_channels e4.
+    bind_gives (with_default false flag (codes "get_response") d) _ c (IsCardAgain c) e4 (λ get_response of_get_response e5.
+    let same : card_spec files aids keys channels get_response ≡ c = cc in
+    subst IsCardAgain same (card_back files aids keys channels get_response (channels == 3)
+      (list_again file_form file_data file_again files (field_gives (list file_form) (codes "files") d files of_files))
+      (list_field hex hex_data hex_again (get (codes "aids") d) aids of_aids)
+      (list_field key_form key_data key_again (get (codes "keys") d) keys of_keys)
+      refl
+      (number_field 3 255 refl (get (codes "channels") d) channels of_channels))))))))
+
+-- ---- changes
+
+abbrev change_spec : ℕ → ℕ → List (List ℕ) → List FileSpec → ChangeSpec
+change_spec qualifier kind paths files = record { qualifier = qualifier; kind = kind; list = paths; files = files }
+
+abbrev IsChangeAgain : ChangeSpec → Type 0
+IsChangeAgain c = change_form (change_data c) ≡ Ok c
+
+change_usual : (qualifier : ℕ) (paths : List (List ℕ)) (files : List FileSpec)
+    → whole_to 255 (number_data qualifier) ≡ Ok qualifier → ListAgain ids path_data paths → ListAgain file_form file_data files → IsChangeAgain (change_spec qualifier 1 paths files)
+unfolding change_form change_data
+change_usual qualifier [] [] q p f = rw (q) refl
+change_usual qualifier [] (b ∷ bs) q p f = rw (q, f) refl
+change_usual qualifier (a ∷ more) [] q p f = rw (q, p) refl
+change_usual qualifier (a ∷ more) (b ∷ bs) q p f = rw (q, p, f) refl
+
+change_other : (qualifier kind : ℕ) (paths : List (List ℕ)) (files : List FileSpec)
+    → whole_to 255 (number_data qualifier) ≡ Ok qualifier → ListAgain ids path_data paths → ListAgain file_form file_data files → (kind == 1) ≡ false → whole_to 255 (number_data kind) ≡ Ok kind
+    → IsChangeAgain (change_spec qualifier kind paths files)
+unfolding change_form change_data
+change_other qualifier kind [] [] q p f e w = rw (e, q, w) refl
+change_other qualifier kind [] (b ∷ bs) q p f e w = rw (e, q, w, f) refl
+change_other qualifier kind (a ∷ more) [] q p f e w = rw (e, q, w, p) refl
+change_other qualifier kind (a ∷ more) (b ∷ bs) q p f e w = rw (e, q, w, p, f) refl
+
+change_back : (qualifier kind : ℕ) (paths : List (List ℕ)) (files : List FileSpec) (usual : Bool)
+    → whole_to 255 (number_data qualifier) ≡ Ok qualifier → ListAgain ids path_data paths → ListAgain file_form file_data files → (kind == 1) ≡ usual → whole_to 255 (number_data kind) ≡ Ok kind
+    → IsChangeAgain (change_spec qualifier kind paths files)
+change_back qualifier kind paths files true q p f e w =
+    let one : kind ≡ 1 = grind arith in
+    subst (λ (m : ℕ). IsChangeAgain (change_spec qualifier m paths files)) (sym one) (change_usual qualifier paths files q p f)
+change_back qualifier kind paths files false q p f e w = change_other qualifier kind paths files q p f e w
+
+pub change_again : (c : ChangeSpec) → Readable change_form c → IsChangeAgain c
+unfolding change_form
+change_again c (d, h) =
+    bind_gives (only (codes "files" ∷ codes "list" ∷ codes "qualifier" ∷ codes "type" ∷ []) d) _ c (IsChangeAgain c) h (λ known of_known e.
+    bind_gives (field (whole_to 255) (codes "qualifier") d) _ c (IsChangeAgain c) e (λ qualifier of_qualifier e1.
+    bind_gives (with_default 1 (whole_to 255) (codes "type") d) _ c (IsChangeAgain c) e1 (λ kind of_kind e2.
+    bind_gives (with_default [] (list ids) (codes "list") d) _ c (IsChangeAgain c) e2 (λ paths of_paths e3.
+    bind_gives (with_default [] (list file_form) (codes "files") d) _ c (IsChangeAgain c) e3 (λ files of_files e4.
+    let same : change_spec qualifier kind paths files ≡ c = cc in
+    subst IsChangeAgain same (change_back qualifier kind paths files (kind == 1)
+      (number_again 255 qualifier (field_gives (whole_to 255) (codes "qualifier") d qualifier of_qualifier))
+      (list_field ids path_data ids_again (get (codes "list") d) paths of_paths)
+      (list_field file_form file_data file_again (get (codes "files") d) files of_files)
+      refl
+      (number_field 1 255 refl (get (codes "type") d) kind of_kind)))))))
