@@ -27,7 +27,7 @@ in_field : {A : Type 0} (read : Data → Result A Why) (o : Option Data) (x : A)
 in_field read None x e = absurd (cc)
 in_field read (Some d) x e = (d, e)
 
-field_gives : {A : Type 0} (read : Data → Result A Why) (name : List ℕ) (d : Data) (x : A) → field read name d ≡ Ok x → Readable read x
+pub field_gives : {A : Type 0} (read : Data → Result A Why) (name : List ℕ) (d : Data) (x : A) → field read name d ≡ Ok x → Readable read x
 field_gives read name d x e = in_field read (get name d) x e
 
 abbrev IsKeyAgain : KeySpec → Type 0
@@ -66,7 +66,7 @@ fault_again f (d, h) =
 -- ---- fields that may be left out
 
 -- where there is a value, it is read again
-abbrev SomeAgain : {A : Type 0} → (Data → Result A Why) → (A → Data) → Option A → Type 0
+abbrev pub SomeAgain : {A : Type 0} → (Data → Result A Why) → (A → Data) → Option A → Type 0
 SomeAgain read write None = ⊤
 SomeAgain read write (Some x) = read (write x) ≡ Ok x
 
@@ -79,7 +79,7 @@ some_field read write again (Some d) x e =
     let some : Some y ≡ x = cc in
     subst (λ (z : Option _). SomeAgain read write z) some (again y (d, of_y)))
 
-some_again : {A : Type 0} (read : Data → Result A Why) (write : A → Data) → Again read write → (name : List ℕ) (d : Data) (x : Option A) → optional read name d ≡ Ok x → SomeAgain read write x
+pub some_again : {A : Type 0} (read : Data → Result A Why) (write : A → Data) → Again read write → (name : List ℕ) (d : Data) (x : Option A) → optional read name d ≡ Ok x → SomeAgain read write x
 some_again read write again name d x e = some_field read write again (get name d) x e
 
 -- ---- files

@@ -5,3 +5,5 @@ pub mod Floats
 pub mod Kept
 pub mod Values
 pub mod Again
+pub mod Commands
+pub mod OperationsAgain

@@ -13,7 +13,7 @@ use std::alloc::Global;
 
 /// The script as JSON without blanks: keys in byte order, hexadecimal in upper case, and each optional field at its
 /// default left out.
-#[tactic(auto, using(crate::proofs::Floats::script_whole, crate::proofs::Again::change_again, crate::proofs::Again::card_again))]
+#[tactic(auto, using(crate::proofs::Floats::script_whole, crate::proofs::Commands::command_back, crate::proofs::OperationsAgain::notices_back))]
 pub fn write_script(alloc: Global, script: &Script) -> Result<Text, Memory>
     ensures { IfOk result (λ text. text ≡ spec.script_text script.now) }
 {
