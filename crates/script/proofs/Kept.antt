@@ -88,6 +88,16 @@ checked_kept before form card e =
     let limits = subst W (sym paths.0) (second (nat_lt (length before) 4) (is_card_within form) within.0) in
     subst P same (both (is_card_within placed.0 && are_placed placed.0.files) (has_card_shape placed.0) (both (is_card_within placed.0) (are_placed placed.0.files) limits paths.1) shape.0)
 
+-- the rules leave the card as it is
+pub card_same : (before : List CardSpec) (form card : CardSpec) → checked_card before form ≡ Ok card → card ≡ form
+card_same before form card e =
+    let within = rule_then why.Limit (nat_lt (length before) 4 && is_card_within form) (card_with_paths form >>= λ (c : CardSpec). rule why.Shape (has_card_shape c) >>= λ (u : Unit {0}). Ok c) card e in
+    let placed = bind_then (card_with_paths form) (λ (c : CardSpec). rule why.Shape (has_card_shape c) >>= λ (u : Unit {0}). Ok c) card within.1 in
+    let paths = card_paths form placed.0 placed.1.0 in
+    let shape = rule_then why.Shape (has_card_shape placed.0) (Ok placed.0) card placed.1.1 in
+    let same : placed.0 ≡ card = cc in
+    sym same ∙ paths.0
+
 card_kept : (before : List CardSpec) (d : Data) (card : CardSpec) → card_item before d ≡ Ok card → is_card card ≡ true
 unfolding card_item
 card_kept before d card e =
@@ -96,7 +106,7 @@ card_kept before d card e =
 
 -- ---- items
 
-at_item_then : {A : Type 0} (p : Part) (i : ℕ) (r : Result A Why) (x : A) → at_item p i r ≡ Ok x → r ≡ Ok x
+pub at_item_then : {A : Type 0} (p : Part) (i : ℕ) (r : Result A Why) (x : A) → at_item p i r ≡ Ok x → r ≡ Ok x
 at_item_then p i (Ok y) x e = cc
 at_item_then p i (Err word) x e = absurd (cc)
 
@@ -149,6 +159,18 @@ checked_change_kept before form change e =
     let limits = subst W (sym paths.0) (both (nat_le (length form.list) 8) (are_files_within form.files) few.0 (second (nat_lt (length before) 64) (are_files_within form.files) within.0)) in
     subst P same (both (is_change_within placed.0 && is_change_placed placed.0 && have_shape placed.0.files) (is_honest placed.0)
     (both (is_change_within placed.0 && is_change_placed placed.0) (have_shape placed.0.files) (both (is_change_within placed.0) (is_change_placed placed.0) limits paths.1) shape.0) honest.0)
+
+-- the rules leave the change as it is
+pub change_same : (before : List ChangeSpec) (form change : ChangeSpec) → checked_change before form ≡ Ok change → change ≡ form
+change_same before form change e =
+    let few = rule_then why.Form (nat_le (length form.list) 8) (rule why.Limit (nat_lt (length before) 64 && are_files_within form.files) >>= λ (u : Unit {0}). change_with_paths form >>= shaped_change) change e in
+    let within = rule_then why.Limit (nat_lt (length before) 64 && are_files_within form.files) (change_with_paths form >>= shaped_change) change few.1 in
+    let placed = bind_then (change_with_paths form) shaped_change change within.1 in
+    let paths = change_paths form placed.0 placed.1.0 in
+    let shape = rule_then why.Shape (have_shape placed.0.files) (rule why.Honest (is_honest placed.0) >>= λ (u : Unit {0}). Ok placed.0) change placed.1.1 in
+    let honest = rule_then why.Honest (is_honest placed.0) (Ok placed.0) change shape.1 in
+    let same : placed.0 ≡ change = cc in
+    sym same ∙ paths.0
 
 change_kept : (before : List ChangeSpec) (d : Data) (change : ChangeSpec) → change_item before d ≡ Ok change → is_change change ≡ true
 unfolding change_item

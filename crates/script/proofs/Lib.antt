@@ -7,3 +7,5 @@ pub mod Values
 pub mod Again
 pub mod Commands
 pub mod OperationsAgain
+pub mod ScriptAgain
+pub mod Depth

@@ -141,7 +141,7 @@ reference_again r readable =
 
 -- ---- lists
 
-item_list_of : (ds : List Data) → item_list (items_of ds) ≡ ds
+pub item_list_of : (ds : List Data) → item_list (items_of ds) ≡ ds
 item_list_of [] = refl
 item_list_of (d ∷ ds) = ap (λ (xs : List Data). d ∷ xs) (item_list_of ds)
 

@@ -1,5 +1,7 @@
 // Writing a script.
-ghost use Rattle.std.specs.Prelude.{◌≡◌, IfOk, OnOk};
+ghost use Rattle.std.specs.Prelude.{◌≡◌, IfOk, OnOk, Ok};
+ghost use Rattle.script.specs.Scripts.{script_of_bytes};
+ghost use Rattle.script.specs.Rules.{IsScript};
 ghost use Rattle.script.specs.Writing as spec;
 ghost use Rattle.script.specs.Objects.{members};
 
@@ -13,9 +15,10 @@ use std::alloc::Global;
 
 /// The script as JSON without blanks: keys in byte order, hexadecimal in upper case, and each optional field at its
 /// default left out.
-#[tactic(auto, using(crate::proofs::Floats::script_whole, crate::proofs::Commands::command_back, crate::proofs::OperationsAgain::notices_back))]
+#[tactic(auto, using(crate::proofs::Floats::script_whole))]
 pub fn write_script(alloc: Global, script: &Script) -> Result<Text, Memory>
-    ensures { IfOk result (λ text. text ≡ spec.script_text script.now) }
+    ensures text { IfOk result (λ text. text ≡ spec.script_text script.now) }
+    ensures read_back { IfOk result (λ text. IsScript script.now → script_of_bytes text ≡ Ok script.now) }
 {
     let value = script.to_json(alloc)?;
     Ok(Text::from_string(value.to_string(alloc)?))
