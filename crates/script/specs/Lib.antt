@@ -8,3 +8,4 @@ pub mod Pairing
 pub mod Parts
 pub mod Scripts
 pub mod Rules
+pub mod World
