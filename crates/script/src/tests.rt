@@ -6,6 +6,7 @@ mod json;
 mod limits;
 mod operations;
 mod parts;
+mod world;
 
 use crate::{ScriptError, read_script};
 use std::alloc::{AllocError, Global};
