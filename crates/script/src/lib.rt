@@ -10,6 +10,7 @@ mod pairing;
 mod parts;
 mod read;
 mod types;
+mod words;
 mod world;
 
 pub use error::{Part, ScriptError, Why};
