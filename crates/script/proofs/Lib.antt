@@ -9,3 +9,4 @@ pub mod Commands
 pub mod OperationsAgain
 pub mod ScriptAgain
 pub mod Depth
+pub mod Fits

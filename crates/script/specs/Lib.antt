@@ -1,3 +1,4 @@
+pub mod Words
 pub mod Reading
 pub mod Answers
 pub mod Fields
@@ -10,3 +11,4 @@ pub mod Scripts
 pub mod Writing
 pub mod Objects
 pub mod Rules
+pub mod World

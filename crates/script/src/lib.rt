@@ -12,6 +12,8 @@ mod read;
 mod to_json;
 mod types;
 mod write;
+mod words;
+mod world;
 
 pub use error::{Part, ScriptError, Why};
 pub use read::read_script;

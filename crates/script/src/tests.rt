@@ -7,6 +7,7 @@ mod limits;
 mod operations;
 mod parts;
 mod writing;
+mod world;
 
 use crate::{ScriptError, read_script};
 use std::alloc::{AllocError, Global};
