@@ -1,0 +1,66 @@
+-- Cards and changes that keep their rules fit what a simulated slot asks.
+use Rattle.std.proofs.Common.{◌≡◌, ℕ, ◌≤◌, Bool, true, false, ◌&&◌, List, [], ◌∷◌, length, map, Option, Some, None, All, IfSome, refl}
+use Rattle.std.specs.Prelude.{nat_le}
+use Rattle.std.specs.List.{list_all}
+use Rattle.std.proofs.lemmas.Bool.{leb-true}
+use Rattle.std.proofs.lemmas.List.Elements.{All-nil, All-cons, All-map}
+use Rattle.card_model.specs.Limits.{HasFittingParameters, IsAid, IsFittingCard, IsFittingChange}
+use Rattle.script.specs.declared.types.FileSpec.{FileSpec}
+use Rattle.script.specs.declared.types.CardSpec.{CardSpec}
+use Rattle.script.specs.declared.types.ChangeSpec.{ChangeSpec}
+use Rattle.script.specs.Files.{is_kind_within, is_template_within, is_file_within, are_files_within, are_placed, have_shape}
+use Rattle.script.specs.Cards.{is_aid, is_card_within, has_card_shape, is_card, is_change_within, is_change_placed, is_honest, is_change}
+use Rattle.script.specs.World.{file_of, card_of, change_of}
+
+first : (a b : Bool) → (a && b) ≡ true → a ≡ true
+first true b e = refl
+first false b e = e
+
+second : (a b : Bool) → (a && b) ≡ true → b ≡ true
+second true b e = e
+second false b e = absurd (cc)
+
+-- what passes a test has a property, if passing gives it
+passed : {A : Type 0} (test : A → Bool) (P : A → Type 0) → ((x : A) → test x ≡ true → P x) → (xs : List A) → list_all test xs ≡ true → All P xs
+passed test P each [] e = All-nil P
+passed test P each (x ∷ xs) e = All-cons P x xs (each x (first (test x) (list_all test xs) e)) (passed test P each xs (second (test x) (list_all test xs) e))
+
+template_fits : (o : Option (List ℕ)) → is_template_within o ≡ true → IfSome o (λ bytes. length bytes ≤ 256)
+template_fits None e = tt
+template_fits (Some bytes) e = leb-true (length bytes) 256 e
+
+file_fits : (file : FileSpec) → is_file_within file ≡ true → HasFittingParameters (file_of file)
+file_fits file e = template_fits file.fcp (second (is_kind_within file.kind) (is_template_within file.fcp) e)
+
+aid_fits : (aid : List ℕ) → is_aid aid ≡ true → IsAid aid
+aid_fits aid e = leb-true (length aid) 16 (second (nat_le 5 (length aid)) (nat_le (length aid) 16) e)
+
+card_fits : (card : CardSpec) → is_card card ≡ true → IsFittingCard (card_of card)
+card_fits card e =
+    let files = are_files_within card.files in
+    let aids = nat_le (length card.aids) 8 in
+    let each_aid = list_all is_aid card.aids in
+    let keys = nat_le (length card.keys) 8 in
+    let within = first (is_card_within card) (are_placed card.files) (first (is_card_within card && are_placed card.files) (has_card_shape card) e) in
+    let with_keys = first (files && aids && each_aid && keys) (nat_le card.channels 3) within in
+    let with_aids = first (files && aids && each_aid) keys with_keys in
+    let counted = first (files && aids) each_aid with_aids in
+    record {
+      files = All-map HasFittingParameters file_of card.files (passed is_file_within (λ (file : FileSpec). HasFittingParameters (file_of file)) file_fits card.files (second (nat_le (length card.files) 64) (list_all is_file_within card.files) (first files aids counted)));
+      aids = passed is_aid IsAid aid_fits card.aids (second (files && aids) each_aid with_aids);
+      applications = leb-true (length card.aids) 8 (second files aids counted);
+    }
+
+pub cards_fit : (cards : List CardSpec) → list_all is_card cards ≡ true → All IsFittingCard (map card_of cards)
+cards_fit cards e = All-map IsFittingCard card_of cards (passed is_card (λ (card : CardSpec). IsFittingCard (card_of card)) card_fits cards e)
+
+change_fits : (change : ChangeSpec) → is_change change ≡ true → IsFittingChange (change_of change)
+change_fits change e =
+    let within = is_change_within change in
+    let placed = is_change_placed change in
+    let shape = have_shape change.files in
+    let listed = first within placed (first (within && placed) shape (first (within && placed && shape) (is_honest change) e)) in
+    leb-true (length change.list) 8 (first (nat_le (length change.list) 8) (are_files_within change.files) listed)
+
+pub changes_fit : (changes : List ChangeSpec) → list_all is_change changes ≡ true → All IsFittingChange (map change_of changes)
+changes_fit changes e = All-map IsFittingChange change_of changes (passed is_change (λ (change : ChangeSpec). IsFittingChange (change_of change)) change_fits changes e)

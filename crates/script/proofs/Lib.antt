@@ -1,0 +1,12 @@
+pub mod Counts
+pub mod Lists
+pub mod Texts
+pub mod Floats
+pub mod Kept
+pub mod Values
+pub mod Again
+pub mod Commands
+pub mod OperationsAgain
+pub mod ScriptAgain
+pub mod Depth
+pub mod Fits

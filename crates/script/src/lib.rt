@@ -1,0 +1,27 @@
+//! Scripts: the cards, the changes and the actors of a run, read from JSON and written as JSON.
+#![tactic(auto)]
+
+mod cards;
+mod error;
+mod fields;
+mod files;
+mod operations;
+mod pairing;
+mod parts;
+mod read;
+mod to_json;
+mod types;
+mod write;
+mod words;
+mod world;
+
+pub use error::{Part, ScriptError, Why};
+pub use read::read_script;
+pub use types::{
+    ActorNumbers, ActorSpecs, CardSpec, CardSpecs, ChangeSpec, ChangeSpecs, FileSpec, FileSpecs,
+    KeySpec, KeySpecs, KindSpec, Operation, Operations, RowSpecs, Script,
+};
+pub use write::write_script;
+
+#[cfg(test)]
+mod tests;
