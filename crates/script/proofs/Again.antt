@@ -1,8 +1,8 @@
 -- An object that was read is read again from what is written of it.
-use Rattle.std.proofs.Common.{◌≡◌, ℕ, zero, suc, ◌==◌, nat_eq, arith, Bool, true, false, if◌then◌else◌, List, [], ◌∷◌, ◌++◌, length, map, Option, Some, None, Result, Ok, Err, refl, sym, ap, subst, ◌∙◌}
-use Rattle.std.specs.Prelude.{codes, option_map, ⊤, ◌⊎◌}
+use Rattle.std.proofs.Common.{◌≡◌, ℕ, ◌==◌, arith, Bool, true, false, if◌then◌else◌, List, [], ◌∷◌, Option, Some, None, Result, Ok, Err, refl, sym, subst}
+use Rattle.std.specs.Prelude.{codes, ⊤}
 use Rattle.card_model.specs.declared.world.Fault.{Fault}
-use Rattle.serde_json.specs.Data.{Data, Members}
+use Rattle.serde_json.specs.Data.{Data}
 use Rattle.serde_json.specs.Find.{get}
 use Rattle.script.specs.declared.error.Why.{Why}
 use Rattle.script.specs.declared.error.Why.TheVariants as why
@@ -15,7 +15,6 @@ use Rattle.script.specs.declared.types.FileSpec.{FileSpec}
 use Rattle.script.specs.declared.types.KindSpec.{KindSpec}
 use Rattle.script.specs.declared.types.KindSpec.TheVariants.{Transparent, Linear}
 use Rattle.script.specs.Files.{reference, transparent_fields, transparent, linear_fields, linear, kind_named, kind_form, file_form}
-use Rattle.script.specs.Reading.{◌>>=◌, all_of, rule}
 use Rattle.script.specs.Fields.{flag, whole_to, hex, hex_of, first_byte, text, ids, list, field_in, field, optional_in, optional, default_in, with_default, only}
 use Rattle.script.specs.Cards.{key_form, are_tries, card_form, change_form}
 use Rattle.script.specs.Parts.{fault_form}
@@ -48,7 +47,7 @@ key_again k (d, h) =
       sized_again 8 pin (field_gives (hex_of 8) (codes "pin") d pin of_pin),
       number_again 255 tries (field_gives (whole_to 255) (codes "tries") d tries of_tries),
       number_again 255 max (field_gives (whole_to 255) (codes "max") d max of_max),
-      found.0
+      found.0,
     ) refl))))))
 
 abbrev IsFaultAgain : Fault → Type 0
@@ -136,8 +135,8 @@ file_back path (Linear len rows) (Some r) false false (Some bs) p k a c = rw (k.
 kind_again : (name : List ℕ) (d : Data) (kind : KindSpec) → kind_named name d ≡ Ok kind → KindAgain kind
 kind_again name d kind h =
     chosen (same_bytes name (codes "transparent")) (transparent d) _ kind (KindAgain kind) h
-      (λ e. transparent_again d kind e)
-      (λ e. chosen (same_bytes name (codes "linear")) (linear d) (Err why.Form) kind (KindAgain kind) e (λ e1. linear_again d kind e1) (λ e1. absurd (cc)))
+    (λ e. transparent_again d kind e)
+    (λ e. chosen (same_bytes name (codes "linear")) (linear d) (Err why.Form) kind (KindAgain kind) e (λ e1. linear_again d kind e1) (λ e1. absurd (cc)))
   where
     transparent_again : (d : Data) (kind : KindSpec) → transparent d ≡ Ok kind → KindAgain kind
     transparent_again d kind h =
@@ -154,7 +153,7 @@ kind_again name d kind h =
         let same : Linear len rows ≡ kind = cc in
         subst KindAgain same (
           number_again 65535 len (field_gives (whole_to 65535) (codes "len") d len of_len),
-          list_again hex hex_data hex_again rows (field_gives (list hex) (codes "records") d rows of_rows)
+          list_again hex hex_data hex_again rows (field_gives (list hex) (codes "records") d rows of_rows),
         ))))
 
 abbrev IsFileAgain : FileSpec → Type 0
@@ -172,10 +171,10 @@ file_again f (d, h) =
     bind_gives (field text (codes "kind") d) _ kind (IsFileAgain f) of_kind (λ name of_name of_named.
     let same : file_spec path kind arr active endless fcp ≡ f = cc in
     subst IsFileAgain same (file_back path kind arr active endless fcp
-      (ids_again path (field_gives ids (codes "path") d path of_path))
-      (kind_again name d kind of_named)
-      (some_again reference reference_data reference_again (codes "arr") d arr of_arr)
-      (some_again hex hex_data hex_again (codes "fcp") d fcp of_fcp)))))))))
+    (ids_again path (field_gives ids (codes "path") d path of_path))
+    (kind_again name d kind of_named)
+    (some_again reference reference_data reference_again (codes "arr") d arr of_arr)
+    (some_again hex hex_data hex_again (codes "fcp") d fcp of_fcp)))))))))
 
 -- ---- lists that may be left out
 
@@ -252,11 +251,11 @@ card_again c (d, h) =
     bind_gives (with_default false flag (codes "get_response") d) _ c (IsCardAgain c) e4 (λ get_response of_get_response e5.
     let same : card_spec files aids keys channels get_response ≡ c = cc in
     subst IsCardAgain same (card_back files aids keys channels get_response (channels == 3)
-      (list_again file_form file_data file_again files (field_gives (list file_form) (codes "files") d files of_files))
-      (list_field hex hex_data hex_again (get (codes "aids") d) aids of_aids)
-      (list_field key_form key_data key_again (get (codes "keys") d) keys of_keys)
-      refl
-      (number_field 3 255 refl (get (codes "channels") d) channels of_channels))))))))
+    (list_again file_form file_data file_again files (field_gives (list file_form) (codes "files") d files of_files))
+    (list_field hex hex_data hex_again (get (codes "aids") d) aids of_aids)
+    (list_field key_form key_data key_again (get (codes "keys") d) keys of_keys)
+    refl
+    (number_field 3 255 refl (get (codes "channels") d) channels of_channels))))))))
 
 -- ---- changes
 
@@ -301,8 +300,8 @@ change_again c (d, h) =
     bind_gives (with_default [] (list file_form) (codes "files") d) _ c (IsChangeAgain c) e3 (λ files of_files e4.
     let same : change_spec qualifier kind paths files ≡ c = cc in
     subst IsChangeAgain same (change_back qualifier kind paths files (kind == 1)
-      (number_again 255 qualifier (field_gives (whole_to 255) (codes "qualifier") d qualifier of_qualifier))
-      (list_field ids path_data ids_again (get (codes "list") d) paths of_paths)
-      (list_field file_form file_data file_again (get (codes "files") d) files of_files)
-      refl
-      (number_field 1 255 refl (get (codes "type") d) kind of_kind)))))))
+    (number_again 255 qualifier (field_gives (whole_to 255) (codes "qualifier") d qualifier of_qualifier))
+    (list_field ids path_data ids_again (get (codes "list") d) paths of_paths)
+    (list_field file_form file_data file_again (get (codes "files") d) files of_files)
+    refl
+    (number_field 1 255 refl (get (codes "type") d) kind of_kind)))))))

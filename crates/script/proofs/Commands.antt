@@ -1,5 +1,5 @@
 -- The bytes from which a command was read are those that are written of it.
-use Rattle.std.proofs.Common.{◌≡◌, ℕ, zero, suc, ◌+◌, ◌%◌, ◌<◌, ◌≤◌, ◌==◌, ◌||◌, Bool, true, false, if◌then◌else◌, List, [], ◌∷◌, ◌++◌, length, take, drop, Option, Some, None, Result, Ok, Err, refl, sym, ap, subst, ◌∙◌, arith, rules, nat_lt, slice_index}
+use Rattle.std.proofs.Common.{◌≡◌, ℕ, zero, suc, ◌+◌, ◌%◌, ◌<◌, ◌≤◌, ◌==◌, ◌||◌, Bool, true, false, if◌then◌else◌, List, [], ◌∷◌, ◌++◌, length, take, drop, Option, Some, None, Result, Ok, Err, refl, ap, subst, ◌∙◌, arith, rules, nat_lt}
 use Rattle.std.proofs.lemmas.List.{take-append-drop}
 use Rattle.hex.specs.Hex.{IsBytes}
 use Rattle.apdu.specs.Values.{CommandValue}
@@ -59,9 +59,9 @@ body_back class ins p1 p2 lc rest c h e =
     let found = with_le_then (record (header class ins p1 p2) { body = take lc rest }) c error (read_le (drop lc rest)) test.1 in
     let le = le_read (drop lc rest) found.0 (bytes_behind lc rest h) found.1 in
     subst (λ (k : CommandValue). command_bytes k ≡ class ∷ ins ∷ p1 ∷ p2 ∷ lc ∷ rest) found.2
-      (ap (λ (xs : List ℕ). class ∷ ins ∷ p1 ∷ p2 ∷ (xs ++ le_bytes found.0)) (filled lc rest apart.0 within)
-      ∙ ap (λ (xs : List ℕ). class ∷ ins ∷ p1 ∷ p2 ∷ lc ∷ (take lc rest ++ xs)) le
-      ∙ ap (λ (xs : List ℕ). class ∷ ins ∷ p1 ∷ p2 ∷ lc ∷ xs) (take-append-drop lc rest))
+    (ap (λ (xs : List ℕ). class ∷ ins ∷ p1 ∷ p2 ∷ (xs ++ le_bytes found.0)) (filled lc rest apart.0 within)
+    ∙ ap (λ (xs : List ℕ). class ∷ ins ∷ p1 ∷ p2 ∷ lc ∷ (take lc rest ++ xs)) le
+    ∙ ap (λ (xs : List ℕ). class ∷ ins ∷ p1 ∷ p2 ∷ lc ∷ xs) (take-append-drop lc rest))
 
 behind_back : (class ins p1 p2 : ℕ) (rest : List ℕ) (c : CommandValue) → IsBytes rest → read_behind (header class ins p1 p2) rest ≡ Ok c → command_bytes c ≡ class ∷ ins ∷ p1 ∷ p2 ∷ rest
 behind_back class ins p1 p2 [] c h e =

@@ -1,12 +1,12 @@
 -- The JSON of a script nests six levels.
-use Rattle.std.proofs.Common.{◌≡◌, ℕ, suc, ◌≤◌, ◌==◌, Bool, true, false, List, [], ◌∷◌, map, Option, Some, None, option_map, not, Ordering, Less, Equal, Greater, refl, codes, arith}
+use Rattle.std.proofs.Common.{ℕ, suc, ◌≤◌, ◌==◌, Bool, true, false, List, [], ◌∷◌, map, Option, Some, None, option_map, not, Ordering, Less, Equal, Greater, codes, arith}
 use Rattle.std.specs.Ordering.{nat_cmp, match_ordering}
 use Rattle.std.specs.Cmp.Lexicographic.{slice_cmp}
 use Rattle.fcp.specs.declared.control.ArrRef.{ArrRef}
 use Rattle.card_model.specs.declared.world.Fault.{Fault}
 use Rattle.apdu.specs.Apdu.{command_bytes}
 use Rattle.apdu.specs.Words.{is_empty}
-use Rattle.serde_json.specs.Data.{Data, boolean, number, string, array, object, unsigned, Members, no_members, member, put, depth, items_depth, members_depth}
+use Rattle.serde_json.specs.Data.{Data, boolean, string, object, Members, no_members, member, put, depth, items_depth, members_depth}
 use Rattle.serde_json.specs.View.{items_of}
 use Rattle.script.specs.declared.types.FileSpec.{FileSpec}
 use Rattle.script.specs.declared.types.KeySpec.{KeySpec}
@@ -88,17 +88,17 @@ flag_within n b = omega arith
 file_fields_within : (f : FileSpec) → Within 1 (spec.file_fields f)
 file_fields_within f =
     put_within 1 (codes "path") (spec.path_data f.path) _ (path_within 1 f.path)
-      (some_within 1 spec.hex_data (hex_within 1) (codes "fcp") f.fcp _
-        (unless_within 1 (not f.endless) (codes "endless") (boolean f.endless) _ (flag_within 1 f.endless)
-          (some_within 1 spec.reference_data (reference_within 1) (codes "arr") f.arr _
-            (unless_within 1 f.active (codes "active") (boolean f.active) no_members (flag_within 1 f.active) (none 1)))))
+    (some_within 1 spec.hex_data (hex_within 1) (codes "fcp") f.fcp _
+    (unless_within 1 (not f.endless) (codes "endless") (boolean f.endless) _ (flag_within 1 f.endless)
+    (some_within 1 spec.reference_data (reference_within 1) (codes "arr") f.arr _
+    (unless_within 1 f.active (codes "active") (boolean f.active) no_members (flag_within 1 f.active) (none 1)))))
 
 kind_within : (k : KindSpec) (fields : Members) → Within 1 fields → Within 1 (spec.with_kind k fields)
 kind_within (Transparent bytes) fields x =
     put_within 1 (codes "kind") (string (codes "transparent")) _ (text_within 1 (codes "transparent")) (put_within 1 (codes "data") (spec.hex_data bytes) fields (hex_within 1 bytes) x)
 kind_within (Linear len rows) fields x =
     put_within 1 (codes "records") (spec.list_data spec.hex_data rows) _ (list_within 0 spec.hex_data (hex_within 0) rows)
-      (put_within 1 (codes "len") (spec.number_data len) _ (number_within 1 len) (put_within 1 (codes "kind") (string (codes "linear")) fields (text_within 1 (codes "linear")) x))
+    (put_within 1 (codes "len") (spec.number_data len) _ (number_within 1 len) (put_within 1 (codes "kind") (string (codes "linear")) fields (text_within 1 (codes "linear")) x))
 
 file_within : (f : FileSpec) → IsWithin 2 (spec.file_data f)
 unfolding spec.file_data
@@ -108,25 +108,25 @@ key_within : (k : KeySpec) → IsWithin 2 (spec.key_data k)
 unfolding spec.key_data
 key_within k = object_within 1 _
     (put_within 1 (codes "tries") (spec.number_data k.tries) _ (number_within 1 k.tries)
-      (put_within 1 (codes "pin") (spec.hex_data k.pin) _ (hex_within 1 k.pin)
-        (put_within 1 (codes "max") (spec.number_data k.max) _ (number_within 1 k.max) (put_within 1 (codes "key") (spec.byte_data k.key) no_members (hex_within 1 (k.key ∷ [])) (none 1)))))
+    (put_within 1 (codes "pin") (spec.hex_data k.pin) _ (hex_within 1 k.pin)
+    (put_within 1 (codes "max") (spec.number_data k.max) _ (number_within 1 k.max) (put_within 1 (codes "key") (spec.byte_data k.key) no_members (hex_within 1 (k.key ∷ [])) (none 1)))))
 
 card_within : (c : CardSpec) → IsWithin 4 (spec.card_data c)
 unfolding spec.card_data
 card_within c = object_within 3 _
     (filled_within 2 spec.key_data key_within (codes "keys") c.keys _
-      (unless_within 3 (not c.get_response) (codes "get_response") (boolean c.get_response) _ (flag_within 3 c.get_response)
-        (put_within 3 (codes "files") (spec.list_data spec.file_data c.files) _ (list_within 2 spec.file_data file_within c.files)
-          (unless_within 3 (c.channels == 3) (codes "channels") (spec.number_data c.channels) _ (number_within 3 c.channels)
-            (filled_within 2 spec.hex_data (hex_within 2) (codes "aids") c.aids no_members (none 3))))))
+    (unless_within 3 (not c.get_response) (codes "get_response") (boolean c.get_response) _ (flag_within 3 c.get_response)
+    (put_within 3 (codes "files") (spec.list_data spec.file_data c.files) _ (list_within 2 spec.file_data file_within c.files)
+    (unless_within 3 (c.channels == 3) (codes "channels") (spec.number_data c.channels) _ (number_within 3 c.channels)
+    (filled_within 2 spec.hex_data (hex_within 2) (codes "aids") c.aids no_members (none 3))))))
 
 change_within : (c : ChangeSpec) → IsWithin 4 (spec.change_data c)
 unfolding spec.change_data
 change_within c = object_within 3 _
     (unless_within 3 (c.kind == 1) (codes "type") (spec.number_data c.kind) _ (number_within 3 c.kind)
-      (put_within 3 (codes "qualifier") (spec.number_data c.qualifier) _ (number_within 3 c.qualifier)
-        (filled_within 2 spec.path_data (path_within 2) (codes "list") c.list _
-          (filled_within 2 spec.file_data file_within (codes "files") c.files no_members (none 3)))))
+    (put_within 3 (codes "qualifier") (spec.number_data c.qualifier) _ (number_within 3 c.qualifier)
+    (filled_within 2 spec.path_data (path_within 2) (codes "list") c.list _
+    (filled_within 2 spec.file_data file_within (codes "files") c.files no_members (none 3)))))
 
 fault_within : (f : Fault) → IsWithin 4 (spec.fault_data f)
 unfolding spec.fault_data
@@ -139,8 +139,8 @@ own_within (operation.Arm change) fields x = put_within 1 (codes "change") (spec
 own_within (operation.Load family) fields x = put_within 1 (codes "family") (string (spec.family_name family)) fields (text_within 1 (spec.family_name family)) x
 own_within (operation.Set family row name digits) fields x =
     put_within 1 (codes "number") (string digits) _ (text_within 1 digits)
-      (put_within 1 (codes "name") (string name) _ (text_within 1 name)
-        (put_within 1 (codes "family") (string (spec.family_name family)) _ (text_within 1 (spec.family_name family)) (some_within 1 spec.number_data (number_within 1) (codes "at") row fields x)))
+    (put_within 1 (codes "name") (string name) _ (text_within 1 name)
+    (put_within 1 (codes "family") (string (spec.family_name family)) _ (text_within 1 (spec.family_name family)) (some_within 1 spec.number_data (number_within 1) (codes "at") row fields x)))
 own_within (operation.Clear family row) fields x =
     put_within 1 (codes "family") (string (spec.family_name family)) _ (text_within 1 (spec.family_name family)) (put_within 1 (codes "at") (spec.number_data row) fields (number_within 1 row) x)
 own_within (operation.OpenChannel ref aid) fields x = put_within 1 (codes "ref") (spec.number_data ref) _ (number_within 1 ref) (put_within 1 (codes "aid") (spec.hex_data aid) fields (hex_within 1 aid) x)
@@ -165,9 +165,9 @@ pub script_within : (s : Script) → depth (spec.script_data s) ≤ 6
 unfolding spec.script_data
 script_within s = object_within 5 _
     (put_within 5 (codes "version") (spec.number_data s.version) _ (number_within 5 s.version)
-      (filled_within 4 spec.number_data (number_within 4) (codes "schedule") s.schedule _
-        (filled_within 4 spec.fault_data fault_within (codes "faults") s.faults _
-          (filled_within 4 spec.change_data change_within (codes "changes") s.changes _
-            (put_within 5 (codes "cards") (spec.list_data spec.card_data s.cards) _ (list_within 4 spec.card_data card_within s.cards)
-              (some_within 5 spec.number_data (number_within 5) (codes "budget") s.budget _
-                (put_within 5 (codes "actors") (spec.list_data (spec.list_data spec.operation_data) s.actors) no_members (list_within 4 (spec.list_data spec.operation_data) actor_within s.actors) (none 5))))))))
+    (filled_within 4 spec.number_data (number_within 4) (codes "schedule") s.schedule _
+    (filled_within 4 spec.fault_data fault_within (codes "faults") s.faults _
+    (filled_within 4 spec.change_data change_within (codes "changes") s.changes _
+    (put_within 5 (codes "cards") (spec.list_data spec.card_data s.cards) _ (list_within 4 spec.card_data card_within s.cards)
+    (some_within 5 spec.number_data (number_within 5) (codes "budget") s.budget _
+    (put_within 5 (codes "actors") (spec.list_data (spec.list_data spec.operation_data) s.actors) no_members (list_within 4 (spec.list_data spec.operation_data) actor_within s.actors) (none 5))))))))

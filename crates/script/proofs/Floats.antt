@@ -2,18 +2,13 @@
 use Rattle.std.proofs.Common.{◌≡◌, ◌||◌, ℕ, Bool, true, false, List, [], ◌∷◌, map, Option, Some, None, option_map, not, Ordering, Less, Equal, Greater, refl, codes, true≢false}
 use Rattle.std.specs.Ordering.{nat_cmp, match_ordering}
 use Rattle.std.specs.Cmp.Lexicographic.{slice_cmp}
-use Rattle.fcp.specs.declared.control.ArrRef.{ArrRef}
-use Rattle.card_model.specs.declared.world.Fault.{Fault}
 use Rattle.apdu.specs.Words.{is_empty}
-use Rattle.serde_json.specs.Data.{Data, boolean, number, string, array, object, unsigned, Members, no_members, member, put}
+use Rattle.serde_json.specs.Data.{Data, boolean, string, Members, no_members, member, put}
 use Rattle.serde_json.specs.View.{items_of}
 use Rattle.serde_json.specs.Written.{has_float, items_have_float, members_have_float}
 use Rattle.script.specs.declared.types.FileSpec.{FileSpec}
-use Rattle.script.specs.declared.types.KeySpec.{KeySpec}
 use Rattle.script.specs.declared.types.KindSpec.{KindSpec}
 use Rattle.script.specs.declared.types.KindSpec.TheVariants.{Transparent, Linear}
-use Rattle.script.specs.declared.types.CardSpec.{CardSpec}
-use Rattle.script.specs.declared.types.ChangeSpec.{ChangeSpec}
 use Rattle.script.specs.declared.types.Script.{Script}
 use Rattle.script.specs.declared.types.Operation.{Operation}
 use Rattle.script.specs.declared.types.Operation.TheVariants as operation

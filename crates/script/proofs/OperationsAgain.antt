@@ -1,18 +1,14 @@
 -- An operation that was read is read again from what is written of it.
-use Rattle.std.proofs.Common.{◌≡◌, ℕ, ◌==◌, Bool, true, false, if◌then◌else◌, List, [], ◌∷◌, ◌++◌, length, Option, Some, None, Result, Ok, Err, refl, sym, ap, subst, ◌∙◌, nat_le}
-use Rattle.std.specs.Prelude.{codes, option_map, ⊤}
+use Rattle.std.proofs.Common.{◌≡◌, ℕ, true, List, [], ◌∷◌, length, Option, Some, None, Result, Ok, Err, refl, sym, ap, subst, nat_le}
+use Rattle.std.specs.Prelude.{codes}
 use Rattle.apdu.specs.Words.{same_bytes, is_between, is_one_of}
 use Rattle.apdu.specs.Values.{CommandValue}
 use Rattle.apdu.specs.Apdu.{read_command, command_bytes}
 use Rattle.apdu.specs.declared.command.ApduError.{ApduError}
-use Rattle.hex.specs.Hex.{IsBytes}
 use Rattle.serde_json.specs.Data.{Data}
-use Rattle.serde_json.specs.Find.{get}
-use Rattle.script.specs.declared.error.Why.{Why}
 use Rattle.script.specs.declared.error.Why.TheVariants as why
 use Rattle.script.specs.declared.types.Operation.{Operation}
 use Rattle.script.specs.declared.types.Operation.TheVariants as operation
-use Rattle.script.specs.Reading.{◌>>=◌, rule}
 use Rattle.script.specs.Fields.{text, whole_to, hex, hex_of, first_byte, field, optional, only}
 use Rattle.script.specs.Operations.{family, family_named, of_raw_class, raw_command, insert, arm, load, set_entry, clear, handle, open_channel, raw, close, verify, end_session, alone, watch, channel_operation, operation_named, operation_form}
 use Rattle.script.specs.Writing.{number_data, hex_data, byte_data, family_name, operation_data}
@@ -205,8 +201,8 @@ verify_again d op h =
     bind_gives (field (hex_of 8) (codes "pin") d) _ op (IsOperationAgain op) e1 (λ pin of_pin e2.
     let same : operation.Verify (first_byte key) pin ≡ op = cc in
     subst IsOperationAgain same (verify_back key pin
-      (byte_again key (field_gives (hex_of 1) (codes "key") d key of_key))
-      (sized_again 8 pin (field_gives (hex_of 8) (codes "pin") d pin of_pin))))))
+    (byte_again key (field_gives (hex_of 1) (codes "key") d key of_key))
+    (sized_again 8 pin (field_gives (hex_of 8) (codes "pin") d pin of_pin))))))
 
 end_again : (d : Data) (op : Operation) → end_session d ≡ Ok op → IsOperationAgain op
 end_again d op h =

@@ -1,5 +1,5 @@
 -- A script that was read is read again from what is written of it.
-use Rattle.std.proofs.Common.{◌≡◌, ℕ, ◌+◌, ◌==◌, ◌&&◌, Bool, true, false, if◌then◌else◌, List, [], ◌∷◌, ◌++◌, length, map, Option, Some, None, Result, Ok, Err, refl, sym, ap, subst, ◌∙◌, append_assoc, nat_lt, nat_le, rules}
+use Rattle.std.proofs.Common.{◌≡◌, ℕ, ◌==◌, Bool, true, false, if◌then◌else◌, List, [], ◌∷◌, ◌++◌, length, map, Option, Some, None, Result, Ok, Err, refl, sym, ap, subst, ◌∙◌, append_assoc, nat_lt, nat_le, rules}
 use Rattle.std.specs.Prelude.{codes, option_and_then, is_some, ⊤}
 use Rattle.std.specs.List.{list_all}
 use Rattle.apdu.specs.Words.{is_between}
@@ -14,8 +14,8 @@ use Rattle.script.specs.declared.types.CardSpec.{CardSpec}
 use Rattle.script.specs.declared.types.ChangeSpec.{ChangeSpec}
 use Rattle.script.specs.declared.types.Operation.{Operation}
 use Rattle.script.specs.declared.types.Script.{Script}
-use Rattle.script.specs.Reading.{◌>>=◌, rule, Refusal}
-use Rattle.script.specs.Fields.{whole, whole_to, list_of, list, field, optional_in, optional, only}
+use Rattle.script.specs.Reading.{◌>>=◌, rule}
+use Rattle.script.specs.Fields.{whole, whole_to, list_of, list, field, optional_in, optional}
 use Rattle.script.specs.Cards.{card_form, checked_card, card_item, change_form, checked_change, change_item}
 use Rattle.script.specs.Operations.{operation_form, is_actor_within, has_target, actor_item}
 use Rattle.script.specs.Pairing.{are_paired}
@@ -26,7 +26,7 @@ use Rattle.std.specs.Str.{is_utf8}
 use Rattle.serde_json.specs.Read.{read}
 use Rattle.script.specs.Writing.{number_data, list_data, card_data, change_data, fault_data, operation_data, script_data}
 use Rattle.script.proofs.Kept.{bind_gives, bind_then, rule_then, at_item_then, card_same, change_same}
-use Rattle.script.proofs.Values.{Readable, number_again, list_again, item_list_of}
+use Rattle.script.proofs.Values.{number_again, list_again, item_list_of}
 use Rattle.script.proofs.Again.{field_gives, card_again, change_again, fault_again}
 use Rattle.script.proofs.OperationsAgain.{operation_again}
 
@@ -122,7 +122,7 @@ actor_item_again cards changes before d operations h =
     let pairs = rule_then why.Pairing (are_paired form.0) (Ok form.0) operations targets.1 in
     let same : form.0 ≡ operations = cc in
     let read : list operation_form (list_data operation_data operations) ≡ Ok operations =
-        subst (λ (ops : List Operation). list operation_form (list_data operation_data ops) ≡ Ok ops) same (list_again operation_form operation_data operation_again form.0 (d, form.1.0)) in
+    subst (λ (ops : List Operation). list operation_form (list_data operation_data ops) ≡ Ok ops) same (list_again operation_form operation_data operation_again form.0 (d, form.1.0)) in
     let checked : checked_actor cards changes before operations ≡ Ok operations = subst (λ (ops : List Operation). checked_actor cards changes before ops ≡ Ok operations) same form.1.1 in
     ap (λ (r : Result (List Operation) Why). r >>= checked_actor cards changes before) read ∙ checked
 

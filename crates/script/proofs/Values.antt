@@ -1,18 +1,17 @@
 -- A value that was read is read again from what is written of it.
-use Rattle.std.proofs.Common.{◌≡◌, ℕ, zero, suc, ◌+◌, ◌*◌, ◌/◌, ◌%◌, ◌<◌, Bool, true, false, if◌then◌else◌, List, [], ◌∷◌, ◌++◌, length, map, flat_map, Option, Some, None, Result, Ok, Err, refl, sym, ap, subst, ◌∙◌, arith, rules}
-use Rattle.std.specs.Prelude.{nat_le, option_map, slice_index}
+use Rattle.std.proofs.Common.{◌≡◌, ℕ, suc, ◌+◌, ◌*◌, ◌/◌, ◌%◌, ◌<◌, Bool, true, false, if◌then◌else◌, List, [], ◌∷◌, ◌++◌, length, map, flat_map, Option, Some, None, Result, Ok, Err, refl, sym, ap, subst, ◌∙◌, arith}
+use Rattle.std.specs.Prelude.{nat_le, option_map}
 use Rattle.apdu.specs.Words.{pair_value, two_bytes}
 use Rattle.fcp.specs.declared.control.ArrRef.{ArrRef}
 use Rattle.hex.specs.Hex.{IsBytes, decode_of, decode_sized, encode_upper, upper_digits}
 use Rattle.hex.specs.declared.error.FromHexError.{FromHexError}
 use Rattle.hex.proofs.HexLemmas.{decode_of-ok, decode_of-encode_upper, decode_sized-ok, decode_sized-twice, length-encode_with}
-use Rattle.serde_json.specs.Data.{Data, boolean, string, number, unsigned}
-use Rattle.serde_json.specs.Find.{as_u64, as_number, as_str}
+use Rattle.serde_json.specs.Data.{Data}
 use Rattle.serde_json.specs.View.{items_of}
 use Rattle.script.specs.declared.error.Why.{Why}
 use Rattle.script.specs.declared.error.Why.TheVariants.{Form}
-use Rattle.script.specs.Reading.{◌>>=◌, all_of}
-use Rattle.script.specs.Fields.{there, flag, text, whole, whole_to, decoded, hex, hex_of, first_byte, ids_of, ids, item_list, list_of, list}
+use Rattle.script.specs.Reading.{all_of}
+use Rattle.script.specs.Fields.{there, text, whole, whole_to, decoded, hex, hex_of, first_byte, ids_of, ids, item_list, list_of, list}
 use Rattle.script.specs.Files.{reference, reference_of}
 use Rattle.script.specs.Writing as spec
 use Rattle.script.proofs.Kept.{bind_gives}

@@ -1,5 +1,5 @@
 -- The text of a script: compact JSON with its keys in byte order, hexadecimal in upper case, and each optional field at its default left out.
-use Rattle.std.specs.Prelude.{ℕ, ◌==◌, not, Bool, true, false, if◌then◌else◌, List, [], ◌∷◌, ◌++◌, map, flat_map, Option, Some, None, option_map, codes}
+use Rattle.std.specs.Prelude.{ℕ, ◌==◌, not, Bool, if◌then◌else◌, List, [], ◌∷◌, ◌++◌, map, flat_map, Option, Some, None, option_map, codes}
 use Rattle.apdu.specs.Words.{two_bytes, is_empty}
 use Rattle.apdu.specs.Apdu.{command_bytes}
 use Rattle.fcp.specs.declared.control.ArrRef.{ArrRef}

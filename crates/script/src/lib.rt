@@ -11,9 +11,9 @@ mod parts;
 mod read;
 mod to_json;
 mod types;
-mod write;
 mod words;
 mod world;
+mod write;
 
 pub use error::{Part, ScriptError, Why};
 pub use read::read_script;

@@ -6,8 +6,8 @@ mod json;
 mod limits;
 mod operations;
 mod parts;
-mod writing;
 mod world;
+mod writing;
 
 use crate::{ScriptError, read_script};
 use std::alloc::{AllocError, Global};

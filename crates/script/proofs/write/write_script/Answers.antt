@@ -1,4 +1,4 @@
-use Rattle.std.proofs.Common.{◌≡◌, ◌≤◌, ℕ, Some, Ok, true, string_bytes, rules, arith, sym, ap, subst, ◌∙◌}
+use Rattle.std.proofs.Common.{◌≡◌, ◌≤◌, Some, true, string_bytes, rules, arith, sym, ap, subst, ◌∙◌}
 use Rattle.std.specs.Str.{is_utf8}
 use Rattle.std.specs.Coded.{Coded-set, coded_bool}
 use mathlib.Core.Logic.{∥∥₁_elim}
@@ -6,7 +6,6 @@ use Rattle.std.proofs.lemmas.Str.{is_utf8-from_IsUtf8}
 use Rattle.serde_json.specs.Data.{Data, depth}
 use Rattle.serde_json.specs.Read.{read}
 use Rattle.serde_json.specs.View.{view}
-use Rattle.script.specs.Scripts.{script_of_bytes}
 use Rattle.script.specs.Writing.{script_data}
 use Rattle.script.proofs.Depth.{script_within}
 use Rattle.script.proofs.ScriptAgain.{text_again}
