@@ -6,7 +6,7 @@ use Rattle.apdu.specs.Apdu.{select_ins, terminal_profile_ins, fetch_ins, termina
 use Rattle.card_model.specs.declared.world.World.{World}
 use Rattle.card_model.specs.declared.world.WorldEvent.TheVariants.{Insert}
 use Rattle.card_model.specs.Step.{step, card_inside, after_event}
-use Rattle.uicc_replay.specs.declared.script.Script.{Script}
+use Rattle.uicc_replay.specs.declared.first.FirstScript.{FirstScript}
 use Rattle.uicc_replay.specs.declared.report.Line.{Line}
 use Rattle.uicc_replay.specs.declared.report.Line.TheVariants as line
 use Rattle.uicc_replay.specs.declared.report.Answer.{Answer}
@@ -32,16 +32,16 @@ same_list (x ∷ xs) = rw (same_number x) (same_list xs)
 
 -- ---- a turn that rests lacks no answer
 
-no_answer : (s : Script) (a : ℕ) (lines : List Line) → open_operation a lines ≡ None → due_answer s a lines ≡ None
+no_answer : (s : FirstScript) (a : ℕ) (lines : List Line) → open_operation a lines ≡ None → due_answer s a lines ≡ None
 no_answer s a lines none = rw none refl
 
-loading : (s : Script) (lines : List Line) → open_operation 1 lines ≡ Some 1 → published_in_turn records lines ≡ None → due_answer s 1 lines ≡ None
+loading : (s : FirstScript) (lines : List Line) → open_operation 1 lines ≡ Some 1 → published_in_turn records lines ≡ None → due_answer s 1 lines ≡ None
 loading s lines begun none = rw (begun, none) refl
 
 same_one : (a : ℕ) → (1 == a) ≡ true → 1 ≡ a
 same_one a h = grind arith
 
-of_actor : (s : Script) (a : ℕ) (lines : List Line) (facts : Facts) (now : InTurn) → Past s lines facts now → Rests facts now → due_answer s a lines ≡ None
+of_actor : (s : FirstScript) (a : ℕ) (lines : List Line) (facts : Facts) (now : InTurn) → Past s lines facts now → Rests facts now → due_answer s a lines ≡ None
 of_actor s a lines facts now h rests = by_test (1 == a) refl
   where
     of_one : due_answer s 1 lines ≡ None
@@ -54,16 +54,16 @@ of_actor s a lines facts now h rests = by_test (1 == a) refl
     by_test true is = subst (λ (n : ℕ). due_answer s n lines ≡ None) (same_one a is) of_one
     by_test false is = no_answer s a lines (h.others a is)
 
-lacks_by : (s : Script) (lines : List Line) (now : Option ℕ) → ((a : ℕ) → due_answer s a lines ≡ None) → turn_actor lines ≡ now → lacks_answer s lines ≡ false
+lacks_by : (s : FirstScript) (lines : List Line) (now : Option ℕ) → ((a : ℕ) → due_answer s a lines ≡ None) → turn_actor lines ≡ now → lacks_answer s lines ≡ false
 lacks_by s lines None none is = rw is refl
 lacks_by s lines (Some a) none is = rw (is, none a) refl
 
-pub lacks_none : (s : Script) (lines : List Line) (facts : Facts) (now : InTurn) → Past s lines facts now → Rests facts now → lacks_answer s lines ≡ false
+pub lacks_none : (s : FirstScript) (lines : List Line) (facts : Facts) (now : InTurn) → Past s lines facts now → Rests facts now → lacks_answer s lines ≡ false
 lacks_none s lines facts now h rests = lacks_by s lines (turn_actor lines) (λ a. of_actor s a lines facts now h rests) refl
 
 -- ---- lines that are no event
 
-pub past_turn : (s : Script) (lines : List Line) (facts : Facts) (now : InTurn) (a : ℕ) → Past s lines facts now → Rests facts now → a ≡ scheduled_actor s (mark_count lines) → Past s (line.Turn a ∷ lines) facts (marked a)
+pub past_turn : (s : FirstScript) (lines : List Line) (facts : Facts) (now : InTurn) (a : ℕ) → Past s lines facts now → Rests facts now → a ≡ scheduled_actor s (mark_count lines) → Past s (line.Turn a ∷ lines) facts (marked a)
 past_turn s lines facts now a h rests next = record {
   legal = rw (lacks_none s lines facts now h rests, same_as a (scheduled_actor s (mark_count lines)) next) h.legal;
   world = h.world;
@@ -90,7 +90,7 @@ others_on : (lines : List Line) (i a : ℕ) → open_operation a lines ≡ None 
 others_on lines i a none other = rw other none
 
 -- the actor's world event begins
-pub past_begin_insert : (s : Script) (lines : List Line) (facts : Facts) (now : InTurn) → Past s lines facts now → Past s (line.Begin 1 0 ∷ lines) (record facts { begun = Some 0 }) now
+pub past_begin_insert : (s : FirstScript) (lines : List Line) (facts : Facts) (now : InTurn) → Past s lines facts now → Past s (line.Begin 1 0 ∷ lines) (record facts { begun = Some 0 }) now
 past_begin_insert s lines facts now h = record {
   legal = h.legal;
   world = h.world;
@@ -114,7 +114,7 @@ past_begin_insert s lines facts now h = record {
 }
 
 -- the actor's load begins
-pub past_begin_load : (s : Script) (lines : List Line) (facts : Facts) (now : InTurn) → Past s lines facts now → Past s (line.Begin 1 1 ∷ lines) (record facts { begun = Some 1; unwanted = false }) now
+pub past_begin_load : (s : FirstScript) (lines : List Line) (facts : Facts) (now : InTurn) → Past s lines facts now → Past s (line.Begin 1 1 ∷ lines) (record facts { begun = Some 1; unwanted = false }) now
 past_begin_load s lines facts now h = record {
   legal = h.legal;
   world = h.world;
@@ -160,7 +160,7 @@ starts a c = (a == 0) && ((c.ins == terminal_profile_ins) || ((c.ins == select_i
 unless_stale : (b : Bool) (v : ℕ) (settled before : Option ℕ) → b ≡ false → before ≡ None → ◌≡◌ {A = Option ℕ} (elim b [ true ↦ Some v | false ↦ unless_settled settled before ]) None
 unless_stale b v settled before fresh none = rw (fresh, none) refl
 
-no_stale : (s : Script) (f : ℕ) (lines : List Line) (o : Option Final) (a : ℕ) (c : CommandValue) (r : ResponseValue) (n first : ℕ)
+no_stale : (s : FirstScript) (f : ℕ) (lines : List Line) (o : Option Final) (a : ℕ) (c : CommandValue) (r : ResponseValue) (n first : ℕ)
     → o ≡ Some (final_of a c r n first) → (c.ins == fetch_ins) ≡ false → (has_value (makes_stale_by f) o && is_wanted s f lines) ≡ false
 no_stale s f lines o a c r n first is fetches = rw (is, fetches) refl
 
@@ -176,7 +176,7 @@ step_counted o before after a c r n first is same = rw (is, same) refl
 response_right : (w w' : World) (c : CommandValue) (r : ResponseValue) → is_some (card_inside w) ≡ true → step w c ≡ (w', r) → is_response_right w c r ≡ true
 response_right w w' c r inside answer = rw (inside, ap (λ (q : World × ResponseValue). q.1) answer, same_list r.body, same_number r.sw) refl
 
-pub past_exchange : (s : Script) (lines : List Line) (facts : Facts) (now : InTurn) (a : ℕ) (c : CommandValue) (r : ResponseValue) (w : World) → Past s lines facts now
+pub past_exchange : (s : FirstScript) (lines : List Line) (facts : Facts) (now : InTurn) (a : ℕ) (c : CommandValue) (r : ResponseValue) (w : World) → Past s lines facts now
     → is_some (card_inside facts.world) ≡ true → step facts.world c ≡ (w, r) → IsPlain c r
     → Past s (line.Exchange a c r ∷ lines) (record facts { world = w; events = facts.events + 1; startup = counted (starts a c) facts.startup }) now
 past_exchange s lines facts now a c r w h inside answer plain =
@@ -207,7 +207,7 @@ past_exchange s lines facts now a c r w h inside answer plain =
 
 -- ---- the card is put in
 
-pub past_insert : (s : Script) (lines : List Line) (facts : Facts) (now : InTurn) (w : World) → Past s lines facts now → facts.unwanted ≡ true → after_event facts.world (Insert 0) ≡ w
+pub past_insert : (s : FirstScript) (lines : List Line) (facts : Facts) (now : InTurn) (w : World) → Past s lines facts now → facts.unwanted ≡ true → after_event facts.world (Insert 0) ≡ w
     → Past s (line.World 1 (Insert 0) ∷ lines) (record facts { world = w; events = facts.events + 1; epoch = facts.epoch + 1; startup = 0; living = true }) (record now { event = Some (Insert 0) })
 past_insert s lines facts now w h fresh change = record {
   legal = h.legal;
@@ -236,7 +236,7 @@ past_insert s lines facts now w h fresh change = record {
 answered_on : (lines : List Line) (i : ℕ) (given : Answer) (a : ℕ) → open_operation a lines ≡ None → (1 == a) ≡ false → open_operation a (line.Answered 1 i given ∷ lines) ≡ None
 answered_on lines i given a none other = rw other none
 
-pub past_moved : (s : Script) (lines : List Line) (facts : Facts) (now : InTurn) → Past s lines facts now → facts.begun ≡ Some 0 → now.actor ≡ Some 1 → now.event ≡ Some (Insert 0)
+pub past_moved : (s : FirstScript) (lines : List Line) (facts : Facts) (now : InTurn) → Past s lines facts now → facts.begun ≡ Some 0 → now.actor ≡ Some 1 → now.event ≡ Some (Insert 0)
     → Past s (line.Answered 1 0 answer.Moved ∷ lines) (record facts { answered = facts.answered + 1; begun = None }) now
 past_moved s lines facts now h begun actor event = record {
   legal = rw (h.actor, actor, h.opened, begun, h.event, event) h.legal;
@@ -260,7 +260,7 @@ past_moved s lines facts now h begun actor event = record {
   stale = λ f. ap (unless_settled (settled_since s f (line.Answered 1 0 answer.Moved ∷ lines))) (h.stale f);
 }
 
-pub past_published : (s : Script) (lines : List Line) (facts : Facts) (now : InTurn) (text : List ℕ) → Past s lines facts now → facts.living ≡ true → text ≡ shown facts.world
+pub past_published : (s : FirstScript) (lines : List Line) (facts : Facts) (now : InTurn) (text : List ℕ) → Past s lines facts now → facts.living ≡ true → text ≡ shown facts.world
     → Past s (line.Published (facts.publications + 1) records facts.epoch facts.events text ∷ lines) (record facts { publications = facts.publications + 1 })
     (record now { publication = Some (facts.publications + 1) })
 past_published s lines facts now text h alive is = record {
@@ -285,7 +285,7 @@ past_published s lines facts now text h alive is = record {
   stale = λ f. ap (unless_settled (settled_since s f (line.Published (facts.publications + 1) records facts.epoch facts.events text ∷ lines))) (h.stale f);
 }
 
-pub past_loaded : (s : Script) (lines : List Line) (facts : Facts) (now : InTurn) (k : ℕ) → Past s lines facts now → facts.begun ≡ Some 1 → now.actor ≡ Some 1 → now.publication ≡ Some k
+pub past_loaded : (s : FirstScript) (lines : List Line) (facts : Facts) (now : InTurn) (k : ℕ) → Past s lines facts now → facts.begun ≡ Some 1 → now.actor ≡ Some 1 → now.publication ≡ Some k
     → Past s (line.Answered 1 1 (answer.Loaded k) ∷ lines) (record facts { answered = facts.answered + 1; begun = None }) now
 past_loaded s lines facts now k h begun actor publication = record {
   legal = rw (h.actor, actor, h.opened, begun, h.publication, publication, same_number k) h.legal;

@@ -18,7 +18,7 @@ use Rattle.card_model.specs.Select.{select_row}
 use Rattle.card_model.specs.Read.{read_binary_row, read_bytes}
 use Rattle.card_model.specs.Toolkit.{terminal_profile_row}
 use Rattle.card_model.specs.Step.{step, on_card, after_event}
-use Rattle.uicc_replay.specs.declared.script.Script.{Script}
+use Rattle.uicc_replay.specs.declared.first.FirstScript.{FirstScript}
 use Rattle.uicc_replay.specs.Families.{iccid_path}
 use Rattle.uicc_replay.specs.History.{first_world}
 use Rattle.uicc_replay.specs.Run.{inside_card, inside_world, size_in, body_at}
@@ -90,6 +90,6 @@ step_missing d current n = missing_at d current n
 
 -- ---- the card is put in
 
-pub event_insert : (s : Script) → after_event (first_world s) (Insert 0) ≡ inside_world s.iccid_file None
+pub event_insert : (s : FirstScript) → after_event (first_world s) (Insert 0) ≡ inside_world s.iccid_file None
 unfolding after_event
 event_insert s = refl

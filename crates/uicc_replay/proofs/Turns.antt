@@ -13,7 +13,7 @@ use Rattle.card_model.specs.Answers.{answer}
 use Rattle.card_model.specs.Step.{step, card_inside, after_event}
 use Rattle.card_model.specs.Slot.{Happens, IsRefused, IsResultOf, refusal_of}
 use Rattle.sim_card.specs.Sim.{SimValue, empty_slot}
-use Rattle.uicc_replay.specs.declared.script.Script.{Script}
+use Rattle.uicc_replay.specs.declared.first.FirstScript.{FirstScript}
 use Rattle.uicc_replay.specs.declared.report.Mode.TheVariants.{Replay}
 use Rattle.uicc_replay.specs.declared.report.Line.{Line}
 use Rattle.uicc_replay.specs.declared.report.Line.TheVariants as line
@@ -25,7 +25,7 @@ use Rattle.sim_codecs.specs.Digits.{iccid_of}
 use Rattle.uicc_replay.specs.History.{card_of, first_world, counted}
 use Rattle.uicc_replay.specs.Legal.{are_legal_lines, is_legal_end}
 use Rattle.uicc_replay.specs.Turns.{mark_count, scheduled_actor, scheduled_or}
-use Rattle.uicc_replay.specs.Script.{FitsFile}
+use Rattle.uicc_replay.specs.First.{FitsFile}
 use Rattle.uicc_replay.specs.Shown.{shown, records_text, digits_text}
 use Rattle.uicc_replay.specs.Run.{Facts, InTurn, marked, Past, StandsIn, Stands, Rests, Asks, IsStage, facts_at, found_at, world_at, inside_world, size_in, body_at, left, moves, is_done, IsRound}
 use Rattle.uicc_replay.proofs.Pasts.{IsPlain, starts, lacks_none, past_turn, past_begin_insert, past_begin_load, past_exchange, past_insert, past_moved, past_published, past_loaded}
@@ -33,7 +33,7 @@ use Rattle.uicc_replay.proofs.Steps.{profile_command, step_profile, usim_command
 
 -- ---- a mark
 
-pub to_marked : (s : Script) (slot : SimValue) (before after : List Line) (n : ℕ) (found : Option (List ℕ)) (stage : Stage) (a : ℕ)
+pub to_marked : (s : FirstScript) (slot : SimValue) (before after : List Line) (n : ℕ) (found : Option (List ℕ)) (stage : Stage) (a : ℕ)
     → Stands s slot before n found stage → a ≡ scheduled_actor s (mark_count before) → after ≡ line.Turn a ∷ before → StandsIn s slot after n found stage (marked a)
 to_marked s slot before after n found stage a h next is = record {
   fits = h.within.fits;
@@ -46,7 +46,7 @@ to_marked s slot before after n found stage a h next is = record {
   past = subst (λ (ls : List Line). Past s ls (facts_at s stage) (marked a)) (sym is) (past_turn s before (facts_at s stage) h.now a h.within.past h.rests next);
 }
 
-rests_at : (s : Script) (stage : Stage) (a : ℕ) → Rests (facts_at s stage) (marked a)
+rests_at : (s : FirstScript) (stage : Stage) (a : ℕ) → Rests (facts_at s stage) (marked a)
 rests_at s Empty a = inl refl
 rests_at s Inserted a = inl refl
 rests_at s Profiled a = inl refl
@@ -55,14 +55,14 @@ rests_at s (Loading n) a = inr (refl, refl)
 rests_at s Done a = inl refl
 
 -- a turn that has only its mark, or exchanges alone, lacks no answer
-pub to_standing : (s : Script) (slot : SimValue) (lines : List Line) (n : ℕ) (found : Option (List ℕ)) (stage : Stage) (a : ℕ)
+pub to_standing : (s : FirstScript) (slot : SimValue) (lines : List Line) (n : ℕ) (found : Option (List ℕ)) (stage : Stage) (a : ℕ)
     → StandsIn s slot lines n found stage (marked a) → Stands s slot lines n found stage
 to_standing s slot lines n found stage a h = record { now = marked a; within = h; rests = rests_at s stage a }
 
 -- ---- exchanges
 
 -- the lines behind a command whose answer is known
-asked_past : (s : Script) (slot after : SimValue) (before lines : List Line) (facts : Facts) (now : InTurn) (w : World) (a : ℕ) (c : CommandValue) (r expected : ResponseValue)
+asked_past : (s : FirstScript) (slot after : SimValue) (before lines : List Line) (facts : Facts) (now : InTurn) (w : World) (a : ℕ) (c : CommandValue) (r expected : ResponseValue)
     → Past s before facts now → slot.world ≡ facts.world → is_some (card_inside facts.world) ≡ true → step facts.world c ≡ (w, expected) → IsPlain c expected → Asks slot after before lines a c r
     → Past s lines (record facts { world = w; events = facts.events + 1; startup = counted (starts a c) facts.startup }) now
 asked_past s slot after before lines facts now w a c r expected h here inside known plain k =
@@ -81,7 +81,7 @@ asked_response slot after before lines v w a c r expected here known k = k.respo
 asks_of : (slot after : SimValue) (before lines : List Line) (a : ℕ) (c d : CommandValue) (r : ResponseValue) → c ≡ d → Asks slot after before lines a c r → Asks slot after before lines a d r
 asks_of slot after before lines a c d r same k = subst (λ (q : CommandValue). Asks slot after before lines a q r) same k
 
-pub to_profiled : (s : Script) (slot after : SimValue) (before lines : List Line) (n : ℕ) (found : Option (List ℕ)) (c : CommandValue) (r : ResponseValue)
+pub to_profiled : (s : FirstScript) (slot after : SimValue) (before lines : List Line) (n : ℕ) (found : Option (List ℕ)) (c : CommandValue) (r : ResponseValue)
     → StandsIn s slot before n found Inserted (marked 0) → c ≡ profile_command → Asks slot after before lines 0 c r → Stands s after lines (n + 1) found Profiled
 to_profiled s slot after before lines n found c r h same k =
     let asks : Asks slot after before lines 0 profile_command r = asks_of slot after before lines 0 c profile_command r same k in
@@ -97,7 +97,7 @@ to_profiled s slot after before lines n found c r h same k =
       past = asked_past s slot after before lines (facts_at s Inserted) (marked 0) _ 0 profile_command r _ h.past h.card refl answered (record { fetches = refl; responds = refl; more = refl; announces = refl }) asks;
     })
 
-pub to_started : (s : Script) (slot after : SimValue) (before lines : List Line) (n : ℕ) (found : Option (List ℕ)) (c : CommandValue) (r : ResponseValue)
+pub to_started : (s : FirstScript) (slot after : SimValue) (before lines : List Line) (n : ℕ) (found : Option (List ℕ)) (c : CommandValue) (r : ResponseValue)
     → StandsIn s slot before n found Profiled (marked 0) → c ≡ usim_command → Asks slot after before lines 0 c r → Stands s after lines (n + 1) found Started
 to_started s slot after before lines n found c r h same k =
     let asks : Asks slot after before lines 0 usim_command r = asks_of slot after before lines 0 c usim_command r same k in
@@ -115,10 +115,10 @@ to_started s slot after before lines n found c r h same k =
 
 -- ---- a path behind the first
 
-with_events : (s : Script) (lines : List Line) (at m n : ℕ) → m ≡ n → Past s lines (record (facts_at s (Loading at)) { events = m }) (marked 1) → Past s lines (record (facts_at s (Loading at)) { events = n }) (marked 1)
+with_events : (s : FirstScript) (lines : List Line) (at m n : ℕ) → m ≡ n → Past s lines (record (facts_at s (Loading at)) { events = m }) (marked 1) → Past s lines (record (facts_at s (Loading at)) { events = n }) (marked 1)
 with_events s lines at m n e h = subst (λ (k : ℕ). Past s lines (record (facts_at s (Loading at)) { events = k }) (marked 1)) e h
 
-pub to_next : (s : Script) (slot after : SimValue) (before lines : List Line) (n at : ℕ) (found : Option (List ℕ)) (c : CommandValue) (r : ResponseValue)
+pub to_next : (s : FirstScript) (slot after : SimValue) (before lines : List Line) (n at : ℕ) (found : Option (List ℕ)) (c : CommandValue) (r : ResponseValue)
     → StandsIn s slot before n found (Loading at) (marked 1) → at < 7 → c ≡ select_command (body_at at) → Asks slot after before lines 1 c r → StandsIn s after lines (n + 1) found (Loading (at + 1)) (marked 1)
 to_next s slot after before lines n at found c r h more same k =
     let asks : Asks slot after before lines 1 (select_command (body_at at)) r = asks_of slot after before lines 1 c (select_command (body_at at)) r same k in
@@ -137,13 +137,13 @@ to_next s slot after before lines n at found c r h more same k =
 
 -- ---- the card is put in
 
-pub inserted_world : (s : Script) (slot after : SimValue) (r : Result (Unit {0}) WorldRefusal) → slot.world ≡ first_world s
+pub inserted_world : (s : FirstScript) (slot after : SimValue) (r : Result (Unit {0}) WorldRefusal) → slot.world ≡ first_world s
     → IsRefused (Some slot.world) (Insert 0) r → OnOk r (Happens (Some slot.world) (Some after.world) (Insert 0)) → after.world ≡ inside_world s.iccid_file None
 inserted_world s slot after r here refused happens =
     let ok : r ≡ Ok tt = subst (λ (w : World). IsResultOf (refusal_of w (Insert 0)) r) here refused in
     same_Some _ _ (rw ok at happens) ∙ ap (λ (w : World). after_event w (Insert 0)) here ∙ event_insert s
 
-pub to_inserted : (s : Script) (slot after : SimValue) (before l1 l2 l3 : List Line) (n : ℕ) (found : Option (List ℕ)) → StandsIn s slot before n found Empty (marked 1)
+pub to_inserted : (s : FirstScript) (slot after : SimValue) (before l1 l2 l3 : List Line) (n : ℕ) (found : Option (List ℕ)) → StandsIn s slot before n found Empty (marked 1)
     → after.world ≡ inside_world s.iccid_file None → after.plan.faults ≡ slot.plan.faults
     → l1 ≡ line.Begin 1 0 ∷ before → l2 ≡ line.World 1 (Insert 0) ∷ l1 → l3 ≡ line.Answered 1 0 answers.Moved ∷ l2 → Stands s after l3 (n + 1) found Inserted
 to_inserted s slot after before l1 l2 l3 n found h card faults e1 e2 e3 = record {
@@ -163,18 +163,18 @@ to_inserted s slot after before l1 l2 l3 n found h card faults e1 e2 e3 = record
 
 -- ---- EF_ICCID
 
-pub selected_world : (s : Script) (slot after : SimValue) (before l1 l2 : List Line) (n : ℕ) (found : Option (List ℕ)) (c : CommandValue) (r : ResponseValue)
+pub selected_world : (s : FirstScript) (slot after : SimValue) (before l1 l2 : List Line) (n : ℕ) (found : Option (List ℕ)) (c : CommandValue) (r : ResponseValue)
     → StandsIn s slot before n found Started (marked 1) → c ≡ select_command (0x2F ∷ 0xE2 ∷ []) → Asks slot after l1 l2 1 c r → after.world ≡ inside_world s.iccid_file (Some iccid_path)
 selected_world s slot after before l1 l2 n found c r h same k =
     asked_world slot after l1 l2 _ _ 1 (select_command (0x2F ∷ 0xE2 ∷ [])) r _ h.card (step_select s.iccid_file None) (asks_of slot after l1 l2 1 c _ r same k)
 
-pub selected_size : (s : Script) (slot after : SimValue) (before l1 l2 : List Line) (n : ℕ) (found : Option (List ℕ)) (c : CommandValue) (r : ResponseValue) (size : ℕ)
+pub selected_size : (s : FirstScript) (slot after : SimValue) (before l1 l2 : List Line) (n : ℕ) (found : Option (List ℕ)) (c : CommandValue) (r : ResponseValue) (size : ℕ)
     → StandsIn s slot before n found Started (marked 1) → c ≡ select_command (0x2F ∷ 0xE2 ∷ []) → Asks slot after l1 l2 1 c r → size ≡ size_in r.body → size ≡ length s.iccid_file
 selected_size s slot after before l1 l2 n found c r size h same k is =
     is ∙ ap (λ (x : ResponseValue). size_in x.body) (asked_response slot after l1 l2 _ _ 1 (select_command (0x2F ∷ 0xE2 ∷ [])) r _ h.card (step_select s.iccid_file None) (asks_of slot after l1 l2 1 c _ r same k))
     ∙ size_read s.iccid_file h.few
 
-pub to_loading : (s : Script) (slot s1 s2 : SimValue) (before l1 l2 l3 : List Line) (n : ℕ) (found : Option (List ℕ)) (c1 c2 : CommandValue) (r1 r2 : ResponseValue) (size : ℕ) (bytes : List ℕ)
+pub to_loading : (s : FirstScript) (slot s1 s2 : SimValue) (before l1 l2 l3 : List Line) (n : ℕ) (found : Option (List ℕ)) (c1 c2 : CommandValue) (r1 r2 : ResponseValue) (size : ℕ) (bytes : List ℕ)
     → StandsIn s slot before n found Started (marked 1) → l1 ≡ line.Begin 1 1 ∷ before → c1 ≡ select_command (0x2F ∷ 0xE2 ∷ []) → Asks slot s1 l1 l2 1 c1 r1 → size ≡ size_in r1.body
     → c2 ≡ read_command size → Asks s1 s2 l2 l3 1 c2 r2 → bytes ≡ r2.body → Stands s s2 l3 (n + 2) (Some bytes) (Loading 1)
 to_loading s slot s1 s2 before l1 l2 l3 n found c1 c2 r1 r2 size bytes h e1 same1 k1 is same2 k2 got =
@@ -205,7 +205,7 @@ shown_of : (d : List ℕ) (current : Option (List ℕ)) → shown (inside_world 
 unfolding shown
 shown_of d current = refl
 
-pub to_done : (s : Script) (slot : SimValue) (before l1 l2 : List Line) (n : ℕ) (found : Option (List ℕ)) (bytes text : List ℕ) → StandsIn s slot before n found (Loading 7) (marked 1)
+pub to_done : (s : FirstScript) (slot : SimValue) (before l1 l2 : List Line) (n : ℕ) (found : Option (List ℕ)) (bytes text : List ℕ) → StandsIn s slot before n found (Loading 7) (marked 1)
     → found ≡ Some bytes → text ≡ records_text (digits_text (iccid_of bytes)) → l1 ≡ line.Published 1 0 1 n text ∷ before → l2 ≡ line.Answered 1 1 (answers.Loaded 1) ∷ l1 → Stands s slot l2 n found Done
 to_done s slot before l1 l2 n found bytes text h there is e1 e2 =
     let same : bytes ≡ s.iccid_file = same_Some _ _ (sym there ∙ h.content) in
@@ -227,7 +227,7 @@ to_done s slot before l1 l2 n found bytes text h there is e1 e2 =
 
 -- ---- the beginning
 
-begun : (s : Script) (slot : SimValue) → FitsFile s.iccid_file → slot ≡ empty_slot (card_of s.iccid_file ∷ []) [] [] → Stands s slot [] 0 None Empty
+begun : (s : FirstScript) (slot : SimValue) → FitsFile s.iccid_file → slot ≡ empty_slot (card_of s.iccid_file ∷ []) [] [] → Stands s slot [] 0 None Empty
 begun s slot fits is = record {
   now = record { actor = None; event = None; publication = None };
   rests = inl refl;
@@ -263,7 +263,7 @@ begun s slot fits is = record {
   };
 }
 
-pub to_begun : (s : Script) (slot : SimValue) (lines : List Line) → FitsFile s.iccid_file → slot ≡ empty_slot (card_of s.iccid_file ∷ []) [] [] → lines ≡ [] → Stands s slot lines 0 None Empty
+pub to_begun : (s : FirstScript) (slot : SimValue) (lines : List Line) → FitsFile s.iccid_file → slot ≡ empty_slot (card_of s.iccid_file ∷ []) [] [] → lines ≡ [] → Stands s slot lines 0 None Empty
 to_begun s slot lines fits is none = subst (λ (ls : List Line). Stands s slot ls 0 None Empty) (sym none) (begun s slot fits is)
 
 -- ---- rounds
@@ -291,42 +291,42 @@ nearer Done mid new going first second = absurd (cc)
 
 -- ---- whose turn it is
 
-scheduled : (s : Script) (n a : ℕ) → slice_get s.schedule n ≡ Some a → a ≡ scheduled_actor s n
+scheduled : (s : FirstScript) (n a : ℕ) → slice_get s.schedule n ≡ Some a → a ≡ scheduled_actor s n
 scheduled s n a h = rw h refl
 
-pub from_schedule : (s : Script) (n m a : ℕ) → slice_get s.schedule n ≡ Some a → m ≡ n → a ≡ scheduled_actor s m
+pub from_schedule : (s : FirstScript) (n m a : ℕ) → slice_get s.schedule n ≡ Some a → m ≡ n → a ≡ scheduled_actor s m
 from_schedule s n m a h same = subst (λ (k : ℕ). a ≡ scheduled_actor s k) (sym same) (scheduled s n a h)
 
-in_round : (s : Script) (n : ℕ) → length s.schedule ≤ n → (n - length s.schedule) % 2 ≡ scheduled_actor s n
+in_round : (s : FirstScript) (n : ℕ) → length s.schedule ≤ n → (n - length s.schedule) % 2 ≡ scheduled_actor s n
 in_round s n h = rw (slice_get_past s.schedule n h) refl
 
-pub round_first : (s : Script) (n : ℕ) → IsRound s n → 0 ≡ scheduled_actor s n
+pub round_first : (s : FirstScript) (n : ℕ) → IsRound s n → 0 ≡ scheduled_actor s n
 round_first s n h = sym h.even ∙ in_round s n h.behind
 
-pub round_second : (s : Script) (n m : ℕ) → IsRound s n → m ≡ n + 1 → 1 ≡ scheduled_actor s m
+pub round_second : (s : FirstScript) (n m : ℕ) → IsRound s n → m ≡ n + 1 → 1 ≡ scheduled_actor s m
 round_second s n m h is =
     let behind : length s.schedule ≤ n = h.behind in
     let even : (n - length s.schedule) % 2 ≡ 0 = h.even in
     let odd : 1 ≡ (m - length s.schedule) % 2 = omega arith in
     odd ∙ in_round s m (omega arith)
 
-pub round_again : (s : Script) (n m k : ℕ) → IsRound s n → m ≡ n + 1 → k ≡ m + 1 → IsRound s k
+pub round_again : (s : FirstScript) (n m k : ℕ) → IsRound s n → m ≡ n + 1 → k ≡ m + 1 → IsRound s k
 round_again s n m k h is again =
     let behind : length s.schedule ≤ n = h.behind in
     let even : (n - length s.schedule) % 2 ≡ 0 = h.even in
     record { behind = omega arith; even = omega arith }
 
-pub round_begins : (s : Script) (n : ℕ) → n ≡ length s.schedule → IsRound s n
+pub round_begins : (s : FirstScript) (n : ℕ) → n ≡ length s.schedule → IsRound s n
 round_begins s n is = record { behind = omega arith; even = omega arith }
 
 -- ---- the end
 
-finished : (s : Script) (slot : SimValue) (lines : List Line) (n : ℕ) (found : Option (List ℕ)) → Stands s slot lines n found Done → (are_legal_lines s Replay lines && is_legal_end s lines) ≡ true
+finished : (s : FirstScript) (slot : SimValue) (lines : List Line) (n : ℕ) (found : Option (List ℕ)) → Stands s slot lines n found Done → (are_legal_lines s Replay lines && is_legal_end s lines) ≡ true
 finished s slot lines n found h =
     let past = h.within.past in
     rw (past.legal, lacks_none s lines (facts_at s Done) h.now past h.rests, past.answered, past.reset, past.living, past.startup, past.response, past.announced, past.stale 0, past.stale 1, past.stale 2) refl
 
-pub to_legal : (s : Script) (slot : SimValue) (lines : List Line) (n : ℕ) (found : Option (List ℕ)) (stage : Stage) → Stands s slot lines n found stage → is_done stage ≡ true
+pub to_legal : (s : FirstScript) (slot : SimValue) (lines : List Line) (n : ℕ) (found : Option (List ℕ)) (stage : Stage) → Stands s slot lines n found stage → is_done stage ≡ true
     → (are_legal_lines s Replay lines && is_legal_end s lines) ≡ true
 to_legal s slot lines n found Empty h done = absurd (cc)
 to_legal s slot lines n found Inserted h done = absurd (cc)

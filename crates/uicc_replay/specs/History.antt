@@ -9,7 +9,7 @@ use Rattle.card_model.specs.declared.world.WorldEvent.TheVariants as world_event
 use Rattle.card_model.specs.Card.{rows_of, has_number, current_path, fresh_channel}
 use Rattle.card_model.specs.Step.{step, after_reset, after_event, card_inside}
 use Rattle.uicc_replay.specs.Families.{iccid_path}
-use Rattle.uicc_replay.specs.declared.script.Script.{Script}
+use Rattle.uicc_replay.specs.declared.first.FirstScript.{FirstScript}
 use Rattle.uicc_replay.specs.declared.report.Line.{Line}
 use Rattle.uicc_replay.specs.declared.report.Line.TheVariants as line
 
@@ -33,7 +33,7 @@ card_of iccid_file = record {
   get_response = false;
 }
 
-abbrev pub first_world : Script → World
+abbrev pub first_world : FirstScript → World
 first_world s = record { cards = card_of s.iccid_file ∷ []; inside = None; changes = [] }
 
 -- ---- events
@@ -60,7 +60,7 @@ world_by (line.Reset a) world = after_reset world
 world_by (line.World a e) world = after_event world e
 world_by _ world = world
 
-abbrev pub world_after : Script → List Line → World
+abbrev pub world_after : FirstScript → List Line → World
 world_after s [] = first_world s
 world_after s (l ∷ earlier) = world_by l (world_after s earlier)
 
@@ -125,5 +125,5 @@ abbrev pub path_on : Option ChannelState → List ℕ
 path_on None = []
 path_on (Some channel) = current_path channel
 
-abbrev pub selected_path : Script → List Line → List ℕ
+abbrev pub selected_path : FirstScript → List Line → List ℕ
 selected_path s lines = path_on (option_and_then basic_channel (card_inside (world_after s lines)))

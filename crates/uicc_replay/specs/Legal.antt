@@ -8,7 +8,7 @@ use Rattle.card_model.specs.declared.world.World.{World}
 use Rattle.card_model.specs.declared.world.WorldEvent.{WorldEvent}
 use Rattle.card_model.specs.declared.world.WorldEvent.TheVariants as world_event
 use Rattle.card_model.specs.Step.{step, card_inside}
-use Rattle.uicc_replay.specs.declared.script.Script.{Script}
+use Rattle.uicc_replay.specs.declared.first.FirstScript.{FirstScript}
 use Rattle.uicc_replay.specs.declared.report.Answer.{Answer}
 use Rattle.uicc_replay.specs.declared.report.Answer.TheVariants as answer
 use Rattle.uicc_replay.specs.declared.report.Mode.{Mode}
@@ -17,6 +17,7 @@ use Rattle.uicc_replay.specs.declared.report.Line.{Line}
 use Rattle.uicc_replay.specs.declared.report.Line.TheVariants as line
 use Rattle.uicc_replay.specs.declared.report.Report.{Report}
 use Rattle.uicc_replay.specs.Families.{records}
+use Rattle.uicc_replay.specs.First.{first_of}
 use Rattle.uicc_replay.specs.History.{world_after, event_count, publication_count, epoch, epoch_lives}
 use Rattle.uicc_replay.specs.Turns.{Operation, insert, load, actor_count, mark_count, scheduled_actor, turn_actor, published_in_turn, event_in_turn, open_operation, operation_now}
 use Rattle.uicc_replay.specs.Open.{is_finished}
@@ -27,7 +28,7 @@ use Rattle.uicc_replay.specs.Shown.{shown}
 abbrev pub is_response_right : World → CommandValue → ResponseValue → Bool
 is_response_right world c r = is_some (card_inside world) && same_response r (step world c).1
 
-abbrev pub has_right_response : Script → Line → List Line → Bool
+abbrev pub has_right_response : FirstScript → Line → List Line → Bool
 has_right_response s (line.Exchange a c r) earlier = is_response_right (world_after s earlier) c r
 has_right_response s (line.Failed a c d) earlier = is_some (card_inside (world_after s earlier))
 has_right_response s l earlier = true
@@ -37,7 +38,7 @@ has_right_response s l earlier = true
 abbrev pub is_snapshot_right : World → List ℕ → Bool
 is_snapshot_right world text = same_bytes text (shown world)
 
-abbrev pub has_right_snapshot : Script → Line → List Line → Bool
+abbrev pub has_right_snapshot : FirstScript → Line → List Line → Bool
 has_right_snapshot s (line.Published k f e n text) earlier =
     (k == publication_count earlier + 1) && epoch_lives earlier && (e == epoch earlier) && (n == event_count earlier) && (f == records)
     && is_snapshot_right (world_after s earlier) text
@@ -60,48 +61,56 @@ answer_of (insert j) lines = if inserts j (event_in_turn lines) then Some answer
 answer_of (load f) lines = option_map (λ k. answer.Loaded k) (published_in_turn f lines)
 
 -- the answer that is due to the actor's open operation
-abbrev pub due_answer : Script → ℕ → List Line → Option Answer
+abbrev pub due_answer : FirstScript → ℕ → List Line → Option Answer
 due_answer s actor lines = option_and_then (λ op. answer_of op lines) (operation_now s actor lines)
 
-abbrev pub is_answer_right : Script → ℕ → ℕ → Answer → List Line → Bool
+abbrev pub is_answer_right : FirstScript → ℕ → ℕ → Answer → List Line → Bool
 is_answer_right s a i given earlier = same_number (turn_actor earlier) (Some a) && same_number (open_operation a earlier) (Some i) && has_value (same_answer given) (due_answer s a earlier)
 
-abbrev pub lacks_answer_of : Script → Option ℕ → List Line → Bool
+abbrev pub lacks_answer_of : FirstScript → Option ℕ → List Line → Bool
 lacks_answer_of s None lines = false
 lacks_answer_of s (Some actor) lines = is_some (due_answer s actor lines)
 
 -- the last turn has an answer due that was not given
-abbrev pub lacks_answer : Script → List Line → Bool
+abbrev pub lacks_answer : FirstScript → List Line → Bool
 lacks_answer s lines = lacks_answer_of s (turn_actor lines) lines
 
 -- a mark ends the turn before it
-abbrev pub has_right_answer : Script → Line → List Line → Bool
+abbrev pub has_right_answer : FirstScript → Line → List Line → Bool
 has_right_answer s (line.Answered a i given) earlier = is_answer_right s a i given earlier
 has_right_answer s (line.Turn a) earlier = not (lacks_answer s earlier)
 has_right_answer s l earlier = true
 
 -- ---- turns: in mode replay they follow the schedule and then go round; in mode run any actor may take one
 
-abbrev pub is_actor_right : Script → Mode → ℕ → List Line → Bool
+abbrev pub is_actor_right : FirstScript → Mode → ℕ → List Line → Bool
 is_actor_right s Replay a earlier = a == scheduled_actor s (mark_count earlier)
 is_actor_right s Run a earlier = nat_le a (actor_count s)
 
-abbrev pub has_right_actor : Script → Mode → Line → List Line → Bool
+abbrev pub has_right_actor : FirstScript → Mode → Line → List Line → Bool
 has_right_actor s m (line.Turn a) earlier = is_actor_right s m a earlier
 has_right_actor s m l earlier = true
 
 -- ---- all rules
 
-abbrev pub is_legal_line : Script → Mode → Line → List Line → Bool
+abbrev pub is_legal_line : FirstScript → Mode → Line → List Line → Bool
 is_legal_line s m l earlier = has_right_response s l earlier && has_right_snapshot s l earlier && has_right_answer s l earlier && has_right_actor s m l earlier
 
-abbrev pub are_legal_lines : Script → Mode → List Line → Bool
+abbrev pub are_legal_lines : FirstScript → Mode → List Line → Bool
 are_legal_lines s m [] = true
 are_legal_lines s m (l ∷ earlier) = is_legal_line s m l earlier && are_legal_lines s m earlier
 
 -- the end ends the last turn; every operation is answered, and nothing is open
-abbrev pub is_legal_end : Script → List Line → Bool
+abbrev pub is_legal_end : FirstScript → List Line → Bool
 is_legal_end s lines = not (lacks_answer s lines) && is_finished s lines
 
+abbrev pub is_legal : FirstScript → Mode → List Line → Bool
+is_legal s m lines = are_legal_lines s m lines && is_legal_end s lines
+
+abbrev pub is_legal_of : Option FirstScript → Mode → List Line → Bool
+is_legal_of None m lines = false
+is_legal_of (Some s) m lines = is_legal s m lines
+
+-- the script is one that is served
 abbrev pub legal : Report → Bool
-legal r = are_legal_lines r.script r.mode r.lines && is_legal_end r.script r.lines
+legal r = is_legal_of (first_of r.script) r.mode r.lines

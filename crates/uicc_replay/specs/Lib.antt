@@ -1,5 +1,5 @@
-pub mod Script
 pub mod Families
+pub mod First
 pub mod History
 pub mod Turns
 pub mod Chains

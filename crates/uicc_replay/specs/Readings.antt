@@ -13,7 +13,7 @@ use Rattle.refresh_cmd.specs.Values.{ProactiveValue}
 use Rattle.refresh_cmd.specs.declared.proactive.ProactiveError.{ProactiveError}
 use Rattle.refresh_cmd.specs.Proactive.{read_proactive, refresh_type}
 use Rattle.uicc_replay.specs.Families.{all_families, has_path, family_paths}
-use Rattle.uicc_replay.specs.declared.script.Script.{Script}
+use Rattle.uicc_replay.specs.declared.first.FirstScript.{FirstScript}
 use Rattle.uicc_replay.specs.declared.report.Line.{Line}
 use Rattle.uicc_replay.specs.History.{begins_epoch, stops_epoch, selected_path}
 use Rattle.uicc_replay.specs.Turns.{is_job_border}
@@ -91,7 +91,7 @@ one_further f None = None
 one_further f (Some p) = if is_success f.response.sw then Some (record p { done = p.done + 1 }) else None
 
 -- the last command read the path, which was selected
-abbrev pub is_read_of : Script → List ℕ → List Line → Final → Bool
+abbrev pub is_read_of : FirstScript → List ℕ → List Line → Final → Bool
 is_read_of s path earlier f = (f.command.class == 0) && is_read_ins f.command.ins && same_bytes (selected_path s earlier) path
 
 -- some family has both paths
@@ -106,10 +106,10 @@ abbrev pub selects_in_family : List ℕ → CommandValue → Bool
 selects_in_family path c = (c.ins == select_ins) && (c.p1 == 0x08) && list_any (λ f. has_path f path && selects_path_of f c) all_families
 
 -- actor 0 turned to something else than the path's family, so that its reading begins anew
-abbrev pub leaves_family : Script → List ℕ → List Line → Final → Bool
+abbrev pub leaves_family : FirstScript → List ℕ → List Line → Final → Bool
 leaves_family s path earlier f = (f.actor == 0) && not (selects_in_family path f.command || (is_read_ins f.command.ins && is_in_same_family (selected_path s earlier) path))
 
-abbrev pub progress_by : Script → List ℕ → List Line → Final → Option Progress → Option Progress
+abbrev pub progress_by : FirstScript → List ℕ → List Line → Final → Option Progress → Option Progress
 progress_by s path earlier f before =
     if is_select_of path f.command then begun f (read_fcp f.response.body)
     else if is_read_of s path earlier f then one_further f before
@@ -117,7 +117,7 @@ progress_by s path earlier f before =
     else before
 
 -- how far the actor's present job has read the path; none where it has not selected it so since it last moved
-abbrev pub progress : Script → ℕ → List ℕ → List Line → Option Progress
+abbrev pub progress : FirstScript → ℕ → List ℕ → List Line → Option Progress
 progress s actor path [] = None
 progress s actor path (l ∷ earlier) = elim (is_job_border actor l || drops path (l ∷ earlier)) [
   | true ↦ None
@@ -140,13 +140,13 @@ has_bad_fcp f = is_reading_select f.command && is_success f.response.sw && not (
 abbrev pub is_refused : Final → Bool
 is_refused f = is_refusal f.response.sw && not (is_reading_select f.command && (f.response.sw == file_not_found))
 
-abbrev pub refuses_by : Script → List ℕ → List Line → Final → Option ℕ
+abbrev pub refuses_by : FirstScript → List ℕ → List Line → Final → Option ℕ
 refuses_by s path earlier f =
     if is_select_of path f.command then (if is_refused f || wants_more f.response.sw || has_bad_fcp f then Some f.first_event else None)
     else if is_read_of s path earlier f && not (is_success f.response.sw) then option_map (λ (p : Progress). p.first_event) (progress s f.actor path earlier)
     else None
 
 -- the first event of the reading of the path that the last line refused
-abbrev pub refused_reading : Script → List ℕ → List Line → Option ℕ
+abbrev pub refused_reading : FirstScript → List ℕ → List Line → Option ℕ
 refused_reading s path [] = None
 refused_reading s path (l ∷ earlier) = option_and_then (refuses_by s path earlier) (final (l ∷ earlier))

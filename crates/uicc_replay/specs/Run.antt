@@ -10,7 +10,7 @@ use Rattle.card_model.specs.declared.world.WorldEvent.{WorldEvent}
 use Rattle.card_model.specs.declared.world.WorldEvent.TheVariants.{Insert}
 use Rattle.card_model.specs.Step.{step}
 use Rattle.sim_card.specs.Sim.{SimValue}
-use Rattle.uicc_replay.specs.declared.script.Script.{Script}
+use Rattle.uicc_replay.specs.declared.first.FirstScript.{FirstScript}
 use Rattle.uicc_replay.specs.declared.report.Mode.TheVariants.{Replay}
 use Rattle.uicc_replay.specs.declared.report.Line.{Line}
 use Rattle.uicc_replay.specs.declared.report.Line.TheVariants as line
@@ -33,7 +33,7 @@ inside_card iccid_file current = record (card_of iccid_file) { channels = record
 abbrev pub inside_world : List ℕ → Option (List ℕ) → World
 inside_world iccid_file current = record { cards = inside_card iccid_file current ∷ []; inside = Some 0; changes = [] }
 
-abbrev pub world_at : Script → Stage → World
+abbrev pub world_at : FirstScript → Stage → World
 world_at s Empty = first_world s
 world_at s Inserted = inside_world s.iccid_file None
 world_at s Profiled = inside_world s.iccid_file None
@@ -66,7 +66,7 @@ abbrev pub marked : ℕ → InTurn
 marked a = record { actor = Some a; event = None; publication = None }
 
 -- the lines are legal and have these facts; nothing is owed, announced or stale, and actor 1 alone has operations
-pub record Past (s : Script) (lines : List Line) (facts : Facts) (now : InTurn) : Type 0 where
+pub record Past (s : FirstScript) (lines : List Line) (facts : Facts) (now : InTurn) : Type 0 where
   pub legal : are_legal_lines s Replay lines ≡ true
   pub world : world_after s lines ≡ facts.world
   pub events : event_count lines ≡ facts.events
@@ -87,7 +87,7 @@ pub record Past (s : Script) (lines : List Line) (facts : Facts) (now : InTurn) 
   pub reset : owes_reset lines ≡ false
   pub stale : (f : ℕ) → stale_since s f lines ≡ None
 
-abbrev pub facts_at : Script → Stage → Facts
+abbrev pub facts_at : FirstScript → Stage → Facts
 facts_at s Empty = record { world = world_at s Empty; events = 0; epoch = 0; publications = 0; startup = 0; answered = 0; living = false; begun = None; unwanted = true }
 facts_at s Inserted = record { world = world_at s Inserted; events = 1; epoch = 1; publications = 0; startup = 0; answered = 1; living = true; begun = None; unwanted = true }
 facts_at s Profiled = record { world = world_at s Profiled; events = 2; epoch = 1; publications = 0; startup = 1; answered = 1; living = true; begun = None; unwanted = true }
@@ -97,7 +97,7 @@ facts_at s Done = record { world = world_at s Done; events = 11; epoch = 1; publ
 
 -- ---- the kept state
 
-abbrev pub found_at : Script → Stage → Option (List ℕ)
+abbrev pub found_at : FirstScript → Stage → Option (List ℕ)
 found_at s Empty = None
 found_at s Inserted = None
 found_at s Profiled = None
@@ -115,7 +115,7 @@ IsStage (Loading n) = (1 ≤ n) × (n ≤ 7)
 IsStage Done = Unit {0}
 
 -- within a turn
-pub record StandsIn (s : Script) (slot : SimValue) (lines : List Line) (happened : ℕ) (found : Option (List ℕ)) (stage : Stage) (now : InTurn) : Type 0 where
+pub record StandsIn (s : FirstScript) (slot : SimValue) (lines : List Line) (happened : ℕ) (found : Option (List ℕ)) (stage : Stage) (now : InTurn) : Type 0 where
   pub fits : IsStage stage
   pub some : 1 ≤ length s.iccid_file
   pub few : length s.iccid_file ≤ 255
@@ -130,7 +130,7 @@ abbrev pub Rests : Facts → InTurn → Type 0
 Rests facts now = (facts.begun ≡ None) ⊎ ((facts.begun ≡ Some 1) × (now.publication ≡ None))
 
 -- between turns
-pub record Stands (s : Script) (slot : SimValue) (lines : List Line) (happened : ℕ) (found : Option (List ℕ)) (stage : Stage) : Type 0 where
+pub record Stands (s : FirstScript) (slot : SimValue) (lines : List Line) (happened : ℕ) (found : Option (List ℕ)) (stage : Stage) : Type 0 where
   pub now : InTurn
   pub within : StandsIn s slot lines happened found stage now
   pub rests : Rests (facts_at s stage) now
@@ -222,7 +222,7 @@ abbrev pub IsNext : Run → ℕ → Type 0
 IsNext r actor = actor ≡ scheduled_actor r.script (mark_count r.lines)
 
 -- the schedule is done, and the next turn is the framework's, which begins a round
-pub record IsRound (s : Script) (n : ℕ) : Type 0 where
+pub record IsRound (s : FirstScript) (n : ℕ) : Type 0 where
   pub behind : length s.schedule ≤ n
   pub even : (n - length s.schedule) % 2 ≡ 0
 

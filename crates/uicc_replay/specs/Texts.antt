@@ -6,7 +6,7 @@ use Rattle.apdu.specs.Apdu.{command_bytes, response_bytes}
 use Rattle.card_model.specs.declared.world.WorldEvent.{WorldEvent}
 use Rattle.card_model.specs.declared.world.WorldEvent.TheVariants.{Arm, Out, Insert}
 use Rattle.uicc_replay.specs.Families.{records, phonebook}
-use Rattle.uicc_replay.specs.declared.script.Script.{Script}
+use Rattle.script.specs.Writing.{script_text}
 use Rattle.uicc_replay.specs.declared.report.Mode.{Mode}
 use Rattle.uicc_replay.specs.declared.report.Mode.TheVariants.{Replay, Run}
 use Rattle.uicc_replay.specs.declared.report.Answer.{Answer}
@@ -71,25 +71,6 @@ line_text l = event_words l ++ other_words l ++ codes "\n"
 abbrev pub lines_text : List Line → List ℕ
 lines_text [] = []
 lines_text (l ∷ earlier) = lines_text earlier ++ line_text l
-
--- ---- the script: compact JSON with keys in byte order and upper-case hexadecimal; an empty schedule is left out
-
-abbrev pub others_text : List ℕ → List ℕ
-others_text [] = codes "]"
-others_text (n ∷ ns) = codes "," ++ decimal n ++ others_text ns
-
-abbrev pub schedule_text : List ℕ → List ℕ
-schedule_text [] = []
-schedule_text (n ∷ ns) = codes ",\"schedule\":[" ++ decimal n ++ others_text ns
-
-unfoldable pub script_head : List ℕ
-script_head = codes "{\"actors\":[[{\"card\":0,\"op\":\"in\"},{\"family\":\"records\",\"op\":\"load\"}]],\"cards\":[{\"files\":[{\"data\":\""
-
-unfoldable pub script_middle : List ℕ
-script_middle = codes "\",\"kind\":\"transparent\",\"path\":\"2FE2\"}]}]"
-
-unfoldable pub script_text : Script → List ℕ
-script_text s = script_head ++ encode_upper s.iccid_file ++ script_middle ++ schedule_text s.schedule ++ codes ",\"version\":1}"
 
 -- ---- the report
 

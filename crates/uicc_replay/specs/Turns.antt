@@ -4,7 +4,7 @@ use Rattle.std.specs.List.{list_all, range_with_len}
 use Rattle.card_model.specs.declared.world.WorldEvent.{WorldEvent}
 use Rattle.card_model.specs.declared.world.WorldEvent.TheVariants as world_event
 use Rattle.uicc_replay.specs.Families.{records}
-use Rattle.uicc_replay.specs.declared.script.Script.{Script}
+use Rattle.uicc_replay.specs.declared.first.FirstScript.{FirstScript}
 use Rattle.uicc_replay.specs.declared.report.Line.{Line}
 use Rattle.uicc_replay.specs.declared.report.Line.TheVariants as line
 use Rattle.uicc_replay.specs.History.{counted}
@@ -17,14 +17,14 @@ pub data Operation : Type 0 where
   -- the files of this family are read and published
   load : ℕ → Operation
 
-abbrev pub actor_count : Script → ℕ
+abbrev pub actor_count : FirstScript → ℕ
 actor_count s = 1
 
 -- the one actor puts the card in, and loads the records
-abbrev pub operations_of : Script → ℕ → List Operation
+abbrev pub operations_of : FirstScript → ℕ → List Operation
 operations_of s actor = if actor == 1 then insert 0 ∷ load records ∷ [] else []
 
-abbrev pub operation_at : Script → ℕ → ℕ → Option Operation
+abbrev pub operation_at : FirstScript → ℕ → ℕ → Option Operation
 operation_at s actor op = slice_get (operations_of s actor) op
 
 abbrev pub loads_family : ℕ → Operation → Bool
@@ -57,7 +57,7 @@ scheduled_or (Some actor) round = actor
 scheduled_or None round = round
 
 -- whose turn comes behind so many turns: the schedule's, and then round from actor 0 to the last
-abbrev pub scheduled_actor : Script → ℕ → ℕ
+abbrev pub scheduled_actor : FirstScript → ℕ → ℕ
 scheduled_actor s n = scheduled_or (slice_get s.schedule n) ((n - length s.schedule) % (actor_count s + 1))
 
 -- the publication of this family in the last turn
@@ -109,15 +109,15 @@ abbrev pub open_operation : ℕ → List Line → Option ℕ
 open_operation actor [] = None
 open_operation actor (l ∷ earlier) = open_operation_by actor l (open_operation actor earlier)
 
-abbrev pub operation_now : Script → ℕ → List Line → Option Operation
+abbrev pub operation_now : FirstScript → ℕ → List Line → Option Operation
 operation_now s actor lines = option_and_then (operation_at s actor) (open_operation actor lines)
 
-abbrev pub has_operations_left : Script → ℕ → List Line → Bool
+abbrev pub has_operations_left : FirstScript → ℕ → List Line → Bool
 has_operations_left s actor lines = nat_lt (answered_count actor lines) (length (operations_of s actor))
 
-abbrev pub all_actors : Script → List ℕ
+abbrev pub all_actors : FirstScript → List ℕ
 all_actors s = range_with_len 1 (actor_count s)
 
 -- every actor's operations are answered
-abbrev pub all_answered : Script → List Line → Bool
+abbrev pub all_answered : FirstScript → List Line → Bool
 all_answered s lines = list_all (λ a. not (has_operations_left s a lines)) (all_actors s)

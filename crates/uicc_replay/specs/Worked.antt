@@ -1,11 +1,15 @@
 -- The worked report: a card with EF_ICCID alone is put in, start-up is done, and the records are loaded; and the same report with
 -- another point in its publication.
-use Rattle.std.specs.Prelude.{ℕ, ◌≡◌, List, [], ◌∷◌, map, Some, None, codes}
+use Rattle.std.specs.Prelude.{ℕ, ◌≡◌, true, false, List, [], ◌∷◌, map, Some, None, codes}
 use Rattle.apdu.specs.Values.{CommandValue, ResponseValue}
 use Rattle.apdu.specs.Apdu.{command, with_class, refusal}
 use Rattle.card_model.specs.declared.world.WorldEvent.TheVariants.{Insert}
 use Rattle.card_model.specs.Answers.{answer}
-use Rattle.uicc_replay.specs.declared.script.Script.{Script}
+use Rattle.script.specs.declared.types.Script.{Script}
+use Rattle.script.specs.declared.types.CardSpec.{CardSpec}
+use Rattle.script.specs.declared.types.FileSpec.{FileSpec}
+use Rattle.script.specs.declared.types.KindSpec.TheVariants.{Transparent}
+use Rattle.script.specs.declared.types.Operation.TheVariants as operation
 use Rattle.uicc_replay.specs.declared.report.Mode.TheVariants.{Replay}
 use Rattle.uicc_replay.specs.declared.report.Answer.TheVariants.{Moved, Loaded}
 use Rattle.uicc_replay.specs.declared.report.Line.{Line}
@@ -15,8 +19,22 @@ use Rattle.uicc_replay.specs.declared.report.Report.{Report}
 abbrev pub iccid_bytes : List ℕ
 iccid_bytes = 0x98 ∷ 0x10 ∷ 0x14 ∷ 0x30 ∷ 0x12 ∷ 0x11 ∷ 0x81 ∷ 0x15 ∷ 0x70 ∷ 0x02 ∷ []
 
+abbrev pub worked_file : FileSpec
+worked_file = record { path = 0x2FE2 ∷ []; kind = Transparent iccid_bytes; arr = None; active = true; endless = false; fcp = None }
+
+abbrev pub worked_card : CardSpec
+worked_card = record { files = worked_file ∷ []; aids = []; keys = []; channels = 3; get_response = false }
+
 abbrev pub worked_script : Script
-worked_script = record { iccid_file = iccid_bytes; schedule = 1 ∷ 0 ∷ 0 ∷ 1 ∷ [] }
+worked_script = record {
+  version = 1;
+  cards = worked_card ∷ [];
+  actors = (operation.Insert 0 ∷ operation.Load 0 ∷ []) ∷ [];
+  changes = [];
+  schedule = 1 ∷ 0 ∷ 0 ∷ 1 ∷ [];
+  faults = [];
+  budget = None;
+}
 
 -- SELECT by path, which asks for the control parameters
 abbrev pub selects : List ℕ → CommandValue

@@ -1,9 +1,9 @@
 // A report: the script, the mode, and the lines of a run.
 ghost use Rattle.std.specs.Prelude.{◌≡◌, ◌∷◌, [], reverse, OnOk, OnErr};
 
-use crate::script::Script;
 use apdu::{Command, Memory, Response, Text};
 use card_model::WorldEvent;
+use script::Script;
 use std::alloc::Global;
 use std::marker::Model;
 

@@ -3,14 +3,14 @@ ghost use Rattle.std.specs.Prelude.{◌≡◌, ◌≤◌, ◌<◌, ◌+◌, ◌-
 ghost use Rattle.apdu.specs.Values.{HasLe};
 ghost use Rattle.card_model.specs.Step.{card_inside, is_served};
 ghost use Rattle.sim_card.specs.Sim.{empty_slot};
-ghost use Rattle.uicc_replay.specs.Script.{FitsFile};
+ghost use Rattle.uicc_replay.specs.First.{FitsFile};
 ghost use Rattle.uicc_replay.specs.History.{card_of};
-ghost use Rattle.uicc_replay.specs.Legal.{legal};
+ghost use Rattle.uicc_replay.specs.Legal.{is_legal};
 ghost use Rattle.uicc_replay.specs.Turns.{mark_count};
 ghost use Rattle.uicc_replay.specs.Run.{IsStanding, IsMarked, IsNext, IsRound, GoesRound, Marks, Selects, Reaches, Turns, Asks, size_in, body_at, left, is_done as is_last};
 
-use crate::report::{Answer, Line, Lines, Mode, Report};
-use crate::script::Script;
+use crate::first::FirstScript;
+use crate::report::{Answer, Line, Lines, Mode};
 use crate::text::records_content;
 use apdu::{Bytes, Command, Memory, Path, Response, Sequence};
 use arrayvec::ArrayVec;
@@ -41,7 +41,7 @@ enum Stage {
 
 #[derive(Drop)]
 struct Run {
-    script: Script,
+    script: FirstScript,
     slot: SimSlot,
     lines: Lines,
     stage: Stage,
@@ -380,7 +380,7 @@ fn slot_of(alloc: Global, iccid_file: &[u8]) -> Result<SimSlot, Memory>
     SimSlot::new(alloc, images, Sequence::new(alloc), Sequence::new(alloc))
 }
 
-fn begin(alloc: Global, script: Script) -> Result<Run, Memory>
+fn begin(alloc: Global, script: FirstScript) -> Result<Run, Memory>
     requires { FitsFile script.iccid_file }
     ensures standing { IfOk result IsStanding }
     ensures script { IfOk result (λ r. r.script ≡ script) }
@@ -396,37 +396,29 @@ fn begin(alloc: Global, script: Script) -> Result<Run, Memory>
     })
 }
 
-/// The legal report of a script, whose turns follow the schedule and then go round from the framework on.
-pub fn replay(alloc: Global, script: Script) -> Result<Report, Memory>
+/// The lines of a legal run of the script, whose turns follow the schedule and then go round from the framework on.
+pub fn replay(alloc: Global, script: FirstScript) -> Result<Lines, Memory>
     requires { FitsFile script.iccid_file }
-    ensures script { IfOk result (λ r. r.script ≡ script) }
-    ensures mode { IfOk result (λ r. r.mode ≡ Mode.Replay) }
-    ensures legal { IfOk result (λ r. legal r ≡ true) }
+    ensures { IfOk result (λ lines. is_legal script Mode.Replay lines ≡ true) }
 {
     let mut run = begin(alloc, script)?;
     run.by_schedule(alloc)?;
     run.to_the_end(alloc)?;
-    Ok(report_of(run))
+    Ok(lines_of(run))
 }
 
-fn report_of(run: Run) -> Report
+fn lines_of(run: Run) -> Lines
     requires standing { IsStanding run }
     requires done { is_last run.stage ≡ true }
-    ensures script { result.script ≡ run.script }
-    ensures mode { result.mode ≡ Mode.Replay }
-    ensures legal { legal result ≡ true }
+    ensures { is_legal run.script Mode.Replay result ≡ true }
 {
     let Run {
-        script,
+        script: _,
         lines,
         slot: _,
         stage: _,
         events: _,
         iccid_file: _,
     } = run;
-    Report {
-        script,
-        mode: Mode::Replay,
-        lines,
-    }
+    lines
 }

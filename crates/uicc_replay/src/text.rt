@@ -3,12 +3,14 @@ ghost use Rattle.std.specs.Prelude.{◌≡◌, ◌++◌, reverse, decimal, strin
 ghost use Rattle.hex.specs.Hex.{encode_upper};
 ghost use Rattle.sim_codecs.specs.Digits.{iccid_of};
 ghost use Rattle.uicc_replay.specs.Shown.{quoted_text, bad_text, digits_text, records_text};
-ghost use Rattle.uicc_replay.specs.Texts.{answer_text, event_text, family_text, acted_text, command_text, response_text, snapshot_text, event_words, other_words, line_text, lines_text, others_text, schedule_text, script_head, script_middle, script_text, mode_text, report_text};
+ghost use Rattle.uicc_replay.specs.Texts.{answer_text, event_text, family_text, acted_text, command_text, response_text, snapshot_text, event_words, other_words, line_text, lines_text, mode_text, report_text};
+ghost use Rattle.uicc_replay.specs.Top.{refused_line};
+ghost use Rattle.script.specs.Reading.{refusal};
 
 use crate::report::{Answer, Line, Mode, Report};
-use crate::script::Script;
 use apdu::{Command, Memory, Response, Text};
 use card_model::WorldEvent;
+use script::{Part, Why, write_script};
 use sim_codecs::{FieldError, iccid};
 use std::alloc::Global;
 
@@ -206,56 +208,6 @@ fn put_lines(alloc: Global, out: &mut String, lines: &[Line]) -> Result<(), Memo
     Ok(())
 }
 
-#[tactic(auto, unfolding(crate::specs::Texts::script_head))]
-fn put_head(out: &mut String) -> Result<(), Memory>
-    ensures { OnOk result (string_bytes out.new ≡ string_bytes out.old ++ script_head) }
-{
-    put(
-        out,
-        "{\"actors\":[[{\"card\":0,\"op\":\"in\"},{\"family\":\"records\",\"op\":\"load\"}]],\"cards\":[{\"files\":[{\"data\":\"",
-    )
-}
-
-#[tactic(auto, unfolding(crate::specs::Texts::script_middle))]
-fn put_middle(out: &mut String) -> Result<(), Memory>
-    ensures { OnOk result (string_bytes out.new ≡ string_bytes out.old ++ script_middle) }
-{
-    put(out, "\",\"kind\":\"transparent\",\"path\":\"2FE2\"}]}]")
-}
-
-fn put_others(alloc: Global, out: &mut String, others: &[u8]) -> Result<(), Memory>
-    ensures { OnOk result (string_bytes out.new ≡ string_bytes out.old ++ others_text others.now) }
-{
-    for actor in others {
-        put(out, ",")?;
-        put_number(alloc, out, *actor as u64)?;
-    }
-    put(out, "]")
-}
-
-fn put_schedule(alloc: Global, out: &mut String, schedule: &[u8]) -> Result<(), Memory>
-    ensures { OnOk result (string_bytes out.new ≡ string_bytes out.old ++ schedule_text schedule.now) }
-{
-    if let [first, others @ ..] = schedule {
-        put(out, ",\"schedule\":[")?;
-        put_number(alloc, out, *first as u64)?;
-        put_others(alloc, out, others)?;
-    }
-    Ok(())
-}
-
-#[tactic(auto, unfolding(crate::specs::Texts::script_text))]
-fn put_script(alloc: Global, out: &mut String, script: &Script) -> Result<(), Memory>
-    ensures { OnOk result (string_bytes out.new ≡ string_bytes out.old ++ script_text script.now) }
-{
-    put_head(out)?;
-    put_hex(alloc, out, script.iccid_file.as_slice())?;
-    put_middle(out)?;
-    put_schedule(alloc, out, script.schedule.as_slice())?;
-    put(out, ",\"version\":1}")?;
-    Ok(())
-}
-
 fn put_mode(out: &mut String, mode: Mode) -> Result<(), Memory>
     ensures { OnOk result (string_bytes out.new ≡ string_bytes out.old ++ mode_text mode) }
 {
@@ -271,10 +223,24 @@ pub fn write_report(alloc: Global, report: &Report) -> Result<Text, Memory>
 {
     let mut out = String::new(alloc);
     put(&mut out, "script ")?;
-    put_script(alloc, &mut out, &report.script)?;
+    put(&mut out, write_script(alloc, &report.script)?.as_str())?;
     put_mode(&mut out, report.mode)?;
     put_lines(alloc, &mut out, report.lines.as_slice())?;
     put(&mut out, "end\n")?;
+    Ok(Text::from_string(out))
+}
+
+/// How it is told that bytes are no script: the part, the index of its item, and the rule that it breaks.
+pub fn refused_text(alloc: Global, part: Part, index: u32, why: Why) -> Result<Text, Memory>
+    ensures { IfOk result (λ text. text ≡ refused_line (refusal part index why)) }
+{
+    let mut out = String::new(alloc);
+    put(&mut out, "refused ")?;
+    put(&mut out, part.word())?;
+    put_numbered(alloc, &mut out, " ", u64::from(index))?;
+    put(&mut out, " ")?;
+    put(&mut out, why.word())?;
+    put(&mut out, "\n")?;
     Ok(Text::from_string(out))
 }
 

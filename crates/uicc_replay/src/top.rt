@@ -2,11 +2,12 @@
 ghost use Rattle.std.specs.Prelude.{◌≡◌, ◌≢◌, ◌≤◌, ◌⊎◌, false, IsTrue, IsSomeAnd, IfSome, IfOk, None};
 ghost use Rattle.apdu.specs.Stream.{Rose, Appends};
 
-use crate::report::Report;
+use crate::first::first_of;
+use crate::report::{Mode, Report};
 use crate::run::replay;
-use crate::script::read_script;
-use crate::text::write_report;
+use crate::text::{refused_text, write_report};
 use apdu::{Memory, Sink, Source, Text};
+use script::{Script, ScriptError, read_script};
 use std::alloc::Global;
 
 /// How a call of the program ended: its status, and the report where there is one.
@@ -21,8 +22,10 @@ pub struct Outcome {
 pub enum Ending {
     /// The words are no command.
     Usage,
-    /// The bytes are no script.
-    Refused,
+    /// The source gave more bytes than a script may have.
+    TooLong,
+    /// The bytes are not replayed; this line tells why.
+    Refused { line: Text },
     /// The source failed.
     ReadFault,
     /// Memory ran out.
@@ -41,10 +44,10 @@ enum Input {
     Fault,
 }
 
-ghost use Rattle.uicc_replay.specs.Top.{is_replay, line_of, is_status, IsDue, IsDueOfBytes, Refuses, IsReplayed, WritesPart, Gives, WritesWhole, WritesFront, Ends};
+ghost use Rattle.uicc_replay.specs.Top.{is_replay, line_of, is_status, IsDue, IsDueOfBytes, IsDueOfScript, IsDueLine, HasMore, IsRefused, IsReplayed, WritesPart, Gives, WritesWhole, WritesFront, Ends};
 
 /// The most bytes that a script may have.
-const SCRIPT_LIMIT: usize = 65_536;
+const SCRIPT_LIMIT: usize = 8_388_608;
 
 /// Reads to the end of the source, or until it gave more than a script may have.
 fn read_all<S: Source>(alloc: Global, source: &mut S) -> Result<Input, Memory>
@@ -76,22 +79,51 @@ fn is_replay_word(words: &[String]) -> bool
     }
 }
 
-/// The ending of bytes that were read.
-fn replay_bytes(alloc: Global, bytes: &[u8]) -> Ending
-    ensures { IsDueOfBytes bytes.now result }
+/// The ending of bytes that are not replayed, with the line that tells why.
+fn refused(line: Result<Text, Memory>) -> Ending
+    ensures { IsDueLine line result }
 {
-    let script = match read_script(alloc, bytes) {
-        Ok(Some(script)) => script,
-        Ok(None) => return Ending::Refused,
+    match line {
+        Ok(line) => Ending::Refused { line },
+        Err(_) => Ending::Memory,
+    }
+}
+
+/// The ending of a script.
+#[tactic(auto, unfolding(crate::specs::Top::later_line))]
+fn replay_script(alloc: Global, script: Script) -> Ending
+    ensures { IsDueOfScript script result }
+{
+    let first = match first_of(alloc, &script) {
+        Ok(Some(first)) => first,
+        Ok(None) => return refused(Text::from_str(alloc, "refused other 0 later\n")),
         Err(_) => return Ending::Memory,
     };
-    let Ok(report) = replay(alloc, script) else {
+    let Ok(lines) = replay(alloc, first) else {
         return Ending::Memory;
+    };
+    let report = Report {
+        script,
+        mode: Mode::Replay,
+        lines,
     };
     let Ok(text) = write_report(alloc, &report) else {
         return Ending::Memory;
     };
     Ending::Replayed { report, text }
+}
+
+/// The ending of bytes that were read.
+fn replay_bytes(alloc: Global, bytes: &[u8]) -> Ending
+    ensures { IsDueOfBytes bytes.now result }
+{
+    match read_script(alloc, bytes) {
+        Ok(script) => replay_script(alloc, script),
+        Err(ScriptError::Refused { part, index, why }) => {
+            refused(refused_text(alloc, part, index, why))
+        }
+        Err(ScriptError::Memory) => Ending::Memory,
+    }
 }
 
 /// Decides how the call ends.
@@ -104,7 +136,7 @@ fn decide<S: Source>(alloc: Global, words: &[String], source: &mut S) -> Ending
     }
     match read_all(alloc, source) {
         Ok(Input::All(bytes)) => replay_bytes(alloc, bytes.as_slice()),
-        Ok(Input::TooLong) => Ending::Refused,
+        Ok(Input::TooLong) => Ending::TooLong,
         Ok(Input::Fault) => Ending::ReadFault,
         Err(_) => Ending::Memory,
     }
@@ -125,7 +157,7 @@ fn end_with<K: Sink>(sink: &mut K, status: u8, report: Option<Report>, piece: &[
 }
 
 /// Writes what the ending writes.
-#[tactic(auto, unfolding(crate::specs::Top::usage_line, crate::specs::Top::refused_line, crate::specs::Top::read_fault_line, crate::specs::Top::memory_line))]
+#[tactic(auto, unfolding(crate::specs::Top::usage_line, crate::specs::Top::too_long_line, crate::specs::Top::read_fault_line, crate::specs::Top::memory_line))]
 fn finish<K: Sink>(sink: &mut K, ending: Ending) -> Outcome
     ensures { Ends ending (K.written sink.old) (K.written sink.new) (K.faults sink.old) (K.faults sink.new) result }
 {
@@ -136,7 +168,8 @@ fn finish<K: Sink>(sink: &mut K, ending: Ending) -> Outcome
             None,
             b"usage: uicc_replay replay, run, check, gen SEED SIZE or bulk SEED SIZE\n",
         ),
-        Ending::Refused => end_with(sink, 3, None, b"refused other 0 later\n"),
+        Ending::TooLong => end_with(sink, 8, None, b"too long\n"),
+        Ending::Refused { line } => end_with(sink, 3, None, line.as_str().as_bytes()),
         Ending::ReadFault => end_with(sink, 4, None, b"read fault\n"),
         Ending::Memory => end_with(sink, 9, None, b"memory\n"),
         Ending::Replayed { report, text } => {
@@ -157,7 +190,8 @@ pub fn top<S: Source, K: Sink>(
     ensures done { result.status ≡ 0 → IsSomeAnd result.report (IsReplayed (S.left source.old) (S.ended source.new) (K.written sink.old) (K.written sink.new)) }
     ensures usage { result.status ≡ 2 → is_replay words.now ≡ false }
     ensures other_words { is_replay words.now ≡ false → (result.status ≡ 2) ⊎ (result.status ≡ 5) }
-    ensures refused { result.status ≡ 3 → Refuses (S.left source.old) (S.ended source.new) (S.given source.old) (S.given source.new) }
+    ensures refused { result.status ≡ 3 → IsRefused (S.left source.old) (S.ended source.new) (K.written sink.old) (K.written sink.new) }
+    ensures too_long { result.status ≡ 8 → HasMore (S.left source.old) (S.given source.old) (S.given source.new) }
     ensures read { result.status ≡ 4 → Rose (S.faults source.old) (S.faults source.new) }
     ensures write { result.status ≡ 5 → Rose (K.faults sink.old) (K.faults sink.new) }
     ensures known { IsTrue (is_status result.status) }

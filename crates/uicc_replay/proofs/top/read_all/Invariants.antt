@@ -11,4 +11,4 @@ invariant-reads g l = record {
 }
 
 abbrev pub decreases-reads : goal.decreases-reads
-decreases-reads g l = 65537 - length l.bytes.items
+decreases-reads g l = 8388609 - length l.bytes.items
