@@ -1,5 +1,5 @@
 -- What an ending whose cause stands, and its writing, make of a call.
-use Rattle.std.proofs.Common.{◌≡◌, ℕ, Bool, List, Option, Some, None, sym, subst, inl, inr}
+use Rattle.std.proofs.Common.{◌≡◌, ℕ, Bool, List, Option, Some, sym, subst, inl, inr}
 use Rattle.std.specs.Prelude.{IsSomeAnd}
 use Rattle.apdu.specs.Stream.{Appends}
 use Rattle.uicc_replay.specs.declared.report.Report.{Report}

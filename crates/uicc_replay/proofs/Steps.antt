@@ -1,16 +1,15 @@
 -- What the card of a script answers to the commands of its run.
-use Rattle.std.proofs.Common.{◌≡◌, ◌≤◌, ℕ, ◌+◌, ◌*◌, ◌/◌, ◌%◌, ◌==◌, Bool, true, false, if◌then◌else◌, List, [], ◌∷◌, length, Option, Some, None, Ok, refl, sym, ap, ◌∙◌, subst, arith}
+use Rattle.std.proofs.Common.{◌≡◌, ◌≤◌, ℕ, ◌==◌, Bool, true, false, if◌then◌else◌, List, [], ◌∷◌, length, Option, Some, None, refl, arith}
 use Rattle.std.proofs.Math.Seq.{take-length}
 use Rattle.std.proofs.lemmas.Grind.{common_steps}
 use Rattle.std.proofs.lemmas.Bool.Decides.{nat_tests}
-use Rattle.apdu.specs.Values.{CommandValue, ResponseValue}
+use Rattle.apdu.specs.Values.{CommandValue}
 use Rattle.apdu.specs.Apdu.{refusal}
 use Rattle.fcp.specs.declared.rows.FileKind.TheVariants.{Transparent}
 use Rattle.fcp.specs.declared.control.Fcp.{Fcp}
 use Rattle.fcp.specs.Content.{transparent}
-use Rattle.fcp.specs.Control.{read_fcp, write_fcp}
+use Rattle.fcp.specs.Control.{write_fcp}
 use Rattle.fcp.proofs.ReadBack.{read_fcp-write_fcp}
-use Rattle.card_model.specs.declared.world.World.{World}
 use Rattle.card_model.specs.declared.world.FileState.{FileState}
 use Rattle.card_model.specs.declared.world.WorldEvent.TheVariants.{Insert}
 use Rattle.card_model.specs.Answers.{answer}

@@ -1,15 +1,12 @@
 -- What a turn does to a run that stands.
-use Rattle.std.proofs.Common.{◌≡◌, ◌≤◌, ◌<◌, ℕ, ◌+◌, ◌-◌, ◌%◌, ◌&&◌, Bool, true, false, List, [], ◌∷◌, length, Option, Some, None, Result, Ok, Err, OnOk, refl, sym, ap, ◌∙◌, subst, arith, inl, inr, is_some, lit≤}
+use Rattle.std.proofs.Common.{◌≡◌, ◌≤◌, ◌<◌, ℕ, ◌+◌, ◌-◌, ◌%◌, ◌&&◌, Bool, true, false, List, [], ◌∷◌, length, Option, Some, None, Result, Ok, OnOk, refl, sym, ap, ◌∙◌, subst, arith, inl, inr, is_some, lit≤}
 use Rattle.std.specs.Prelude.{MatchBool}
 use Rattle.std.proofs.lemmas.Option.{same_Some, slice_get_past}
 use Rattle.std.specs.Prelude.{slice_get}
 use Rattle.apdu.specs.Values.{CommandValue, ResponseValue}
-use Rattle.apdu.specs.Apdu.{refusal}
-use Rattle.fcp.specs.Control.{write_fcp}
 use Rattle.card_model.specs.declared.world.World.{World}
 use Rattle.card_model.specs.declared.world.WorldEvent.TheVariants.{Insert}
 use Rattle.card_model.specs.declared.slot.WorldRefusal.{WorldRefusal}
-use Rattle.card_model.specs.Answers.{answer}
 use Rattle.card_model.specs.Step.{step, card_inside, after_event}
 use Rattle.card_model.specs.Slot.{Happens, IsRefused, IsResultOf, refusal_of}
 use Rattle.sim_card.specs.Sim.{SimValue, empty_slot}
@@ -20,16 +17,16 @@ use Rattle.uicc_replay.specs.declared.report.Line.TheVariants as line
 use Rattle.uicc_replay.specs.declared.report.Answer.TheVariants as answers
 use Rattle.uicc_replay.specs.declared.run.Stage.{Stage}
 use Rattle.uicc_replay.specs.declared.run.Stage.TheVariants.{Empty, Inserted, Profiled, Started, Loading, Done}
-use Rattle.uicc_replay.specs.Families.{records, iccid_path}
+use Rattle.uicc_replay.specs.Families.{iccid_path}
 use Rattle.sim_codecs.specs.Digits.{iccid_of}
 use Rattle.uicc_replay.specs.History.{card_of, first_world, counted}
 use Rattle.uicc_replay.specs.Legal.{are_legal_lines, is_legal_end}
-use Rattle.uicc_replay.specs.Turns.{mark_count, scheduled_actor, scheduled_or}
+use Rattle.uicc_replay.specs.Turns.{mark_count, scheduled_actor}
 use Rattle.uicc_replay.specs.First.{FitsFile}
 use Rattle.uicc_replay.specs.Shown.{shown, records_text, digits_text}
-use Rattle.uicc_replay.specs.Run.{Facts, InTurn, marked, Past, StandsIn, Stands, Rests, Asks, IsStage, facts_at, found_at, world_at, inside_world, size_in, body_at, left, moves, is_done, IsRound}
+use Rattle.uicc_replay.specs.Run.{Facts, InTurn, marked, Past, StandsIn, Stands, Rests, Asks, facts_at, inside_world, size_in, body_at, left, moves, is_done, IsRound}
 use Rattle.uicc_replay.proofs.Pasts.{IsPlain, starts, lacks_none, past_turn, past_begin_insert, past_begin_load, past_exchange, past_insert, past_moved, past_published, past_loaded}
-use Rattle.uicc_replay.proofs.Steps.{profile_command, step_profile, usim_command, step_usim, select_command, iccid_parameters, step_select, size_read, read_command, step_read, step_missing, event_insert}
+use Rattle.uicc_replay.proofs.Steps.{profile_command, step_profile, usim_command, step_usim, select_command, step_select, size_read, read_command, step_read, step_missing, event_insert}
 
 -- ---- a mark
 

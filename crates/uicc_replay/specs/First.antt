@@ -1,5 +1,5 @@
 -- The scripts that the program serves so far: a card with EF_ICCID alone, and one actor that puts it in and loads the records.
-use Rattle.std.specs.Prelude.{◌≤◌, ℕ, ◌==◌, ◌&&◌, not, nat_le, Bool, true, false, if◌then◌else◌, List, [], ◌∷◌, length, Option, Some, None, is_none, option_map, option_and_then}
+use Rattle.std.specs.Prelude.{◌≤◌, ℕ, ◌==◌, ◌&&◌, not, nat_le, Bool, false, if◌then◌else◌, List, [], ◌∷◌, length, Option, Some, None, is_none, option_map, option_and_then}
 use Rattle.std.specs.Option.{option_map_or}
 use Rattle.apdu.specs.Words.{same_bytes, is_between, is_empty}
 use Rattle.script.specs.declared.types.Script.{Script}

@@ -1,6 +1,6 @@
 -- What the lines of a report say of the card's world: its events, epochs and publications.
 -- A list of lines has the newest line first, so that each notion looks back: `l ∷ earlier` is a line and all before it.
-use Rattle.std.specs.Prelude.{ℕ, ◌+◌, ◌==◌, ◌&&◌, ◌||◌, not, Bool, true, false, if◌then◌else◌, List, [], ◌∷◌, find, Option, Some, None, option_map, option_and_then, unwrap_or}
+use Rattle.std.specs.Prelude.{ℕ, ◌+◌, ◌&&◌, ◌||◌, not, Bool, true, false, if◌then◌else◌, List, [], ◌∷◌, find, Option, Some, None, option_map, option_and_then, unwrap_or}
 use Rattle.fcp.specs.Content.{Content, missing, transparent}
 use Rattle.card_model.specs.declared.world.CardState.{CardState}
 use Rattle.card_model.specs.declared.world.ChannelState.{ChannelState}

@@ -1,5 +1,5 @@
 -- Which files were read, by whom and how far: moved paths, a running reading, and a reading that was refused.
-use Rattle.std.specs.Prelude.{ℕ, ◌+◌, ◌-◌, ◌*◌, ◌/◌, ◌%◌, ◌==◌, ◌&&◌, ◌||◌, not, Bool, true, false, nat_le, min, if◌then◌else◌, List, [], ◌∷◌, flat_map, Option, Some, None, option_map, option_and_then, Result, Ok, Err, is_ok}
+use Rattle.std.specs.Prelude.{ℕ, ◌+◌, ◌-◌, ◌/◌, ◌==◌, ◌&&◌, ◌||◌, not, Bool, true, false, if◌then◌else◌, List, [], ◌∷◌, flat_map, Option, Some, None, option_map, option_and_then, Result, Ok, Err, is_ok}
 use Rattle.std.specs.List.{list_any}
 use Rattle.apdu.specs.Values.{CommandValue}
 use Rattle.apdu.specs.Words.{two_bytes, is_one_of, same_bytes, path_is_in, has_value}

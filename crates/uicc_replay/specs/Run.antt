@@ -7,7 +7,6 @@ use Rattle.fcp.specs.Control.{read_fcp}
 use Rattle.card_model.specs.declared.world.World.{World}
 use Rattle.card_model.specs.declared.world.CardState.{CardState}
 use Rattle.card_model.specs.declared.world.WorldEvent.{WorldEvent}
-use Rattle.card_model.specs.declared.world.WorldEvent.TheVariants.{Insert}
 use Rattle.card_model.specs.Step.{step}
 use Rattle.sim_card.specs.Sim.{SimValue}
 use Rattle.uicc_replay.specs.declared.first.FirstScript.{FirstScript}

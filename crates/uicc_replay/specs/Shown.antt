@@ -1,6 +1,6 @@
 -- What is shown of the family of records: compact JSON with its keys in byte order. On the card of a script so far EF_ICCID is the
 -- only file, so that each other member is that of a missing file.
-use Rattle.std.specs.Prelude.{ℕ, List, [], ◌∷◌, ◌++◌, codes, decimal, Result, Ok, Err}
+use Rattle.std.specs.Prelude.{ℕ, List, ◌++◌, codes, decimal, Result, Ok, Err}
 use Rattle.fcp.specs.declared.rows.FileKind.{FileKind}
 use Rattle.fcp.specs.declared.rows.FileKind.TheVariants.{Transparent, Linear, Directory}
 use Rattle.fcp.specs.Content.{Content, first_row}

@@ -1,5 +1,5 @@
 -- How a call of the program ends: its statuses, what each writes, and the cause of each.
-use Rattle.std.specs.Prelude.{◌≡◌, ◌≤◌, ◌<◌, ◌⊎◌, ℕ, ◌+◌, ◌-◌, ◌^◌, ◌==◌, ◌||◌, min, List, [], ◌∷◌, ◌++◌, length, codes, decimal, Result, Ok, Err, Option, Some, None, IfSome, true, false, Bool, String, string_bytes, if◌then◌else◌}
+use Rattle.std.specs.Prelude.{◌≡◌, ◌<◌, ◌⊎◌, ℕ, ◌+◌, ◌-◌, ◌^◌, ◌==◌, min, List, [], ◌∷◌, ◌++◌, length, codes, decimal, Result, Ok, Err, Option, Some, None, IfSome, true, false, Bool, String, string_bytes, if◌then◌else◌}
 use Rattle.std.specs.declared.alloc.Global.{Global}
 use Rattle.apdu.specs.Words.{same_bytes, is_one_of}
 use Rattle.apdu.specs.Stream.{Rose, Appends, AppendsPart}
@@ -9,7 +9,6 @@ use Rattle.script.specs.declared.types.Script.{Script}
 use Rattle.script.specs.Reading.{Refusal}
 use Rattle.script.specs.Words.{part_word, why_word}
 use Rattle.script.specs.Scripts.{script_of_bytes}
-use Rattle.uicc_replay.specs.declared.report.Mode.{Mode}
 use Rattle.uicc_replay.specs.declared.report.Mode.TheVariants.{Replay}
 use Rattle.uicc_replay.specs.declared.report.Report.{Report}
 use Rattle.uicc_replay.specs.declared.top.Ending.{Ending}

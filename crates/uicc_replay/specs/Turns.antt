@@ -1,8 +1,7 @@
 -- Turns and operations: whose turn it is, which operation an actor is at, and what it was answered.
-use Rattle.std.specs.Prelude.{ℕ, ◌+◌, ◌-◌, ◌%◌, ◌==◌, ◌||◌, not, Bool, true, false, nat_lt, if◌then◌else◌, List, [], ◌∷◌, length, slice_get, Option, Some, None, option_and_then, is_some}
+use Rattle.std.specs.Prelude.{ℕ, ◌+◌, ◌-◌, ◌%◌, ◌==◌, ◌||◌, not, Bool, true, false, nat_lt, if◌then◌else◌, List, [], ◌∷◌, length, slice_get, Option, Some, None, option_and_then}
 use Rattle.std.specs.List.{list_all, range_with_len}
 use Rattle.card_model.specs.declared.world.WorldEvent.{WorldEvent}
-use Rattle.card_model.specs.declared.world.WorldEvent.TheVariants as world_event
 use Rattle.uicc_replay.specs.Families.{records}
 use Rattle.uicc_replay.specs.declared.first.FirstScript.{FirstScript}
 use Rattle.uicc_replay.specs.declared.report.Line.{Line}

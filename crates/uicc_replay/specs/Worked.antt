@@ -1,7 +1,7 @@
 -- The worked report: a card with EF_ICCID alone is put in, start-up is done, and the records are loaded; and the same report with
 -- another point in its publication.
-use Rattle.std.specs.Prelude.{ℕ, ◌≡◌, true, false, List, [], ◌∷◌, map, Some, None, codes}
-use Rattle.apdu.specs.Values.{CommandValue, ResponseValue}
+use Rattle.std.specs.Prelude.{ℕ, true, false, List, [], ◌∷◌, Some, None, codes}
+use Rattle.apdu.specs.Values.{CommandValue}
 use Rattle.apdu.specs.Apdu.{command, with_class, refusal}
 use Rattle.card_model.specs.declared.world.WorldEvent.TheVariants.{Insert}
 use Rattle.card_model.specs.Answers.{answer}

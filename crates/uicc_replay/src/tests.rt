@@ -2,6 +2,7 @@
 use crate::top::top;
 use apdu::{MemorySink, MemorySource};
 use std::alloc::{AllocError, Global};
+use std::process::Abort;
 use std::test::Fail;
 
 const SCRIPT_WITHOUT_SCHEDULE: &str =
@@ -48,8 +49,6 @@ end
 ";
 
 const USAGE: &str = "usage: uicc_replay replay, run, check, gen SEED SIZE or bulk SEED SIZE\n";
-
-const REFUSED: &str = "refused other 0 later\n";
 
 /// The status of a call with one word over these bytes, and the sink. The reads and writes of these numbers fail.
 fn call(
@@ -116,36 +115,84 @@ fn holds(bytes: &[u8], piece: &[u8]) -> bool {
     false
 }
 
-#[test]
-fn other_bytes_are_refused(rt: HostRuntime) -> Result<(), Fail> {
-    let refused = [
-        "",
-        "null",
-        "{\"actors\":[[{\"card\":0,\"op\":\"in\"},{\"family\":\"records\",\"op\":\"load\"}]],\"cards\":[{\"fi",
-        // an unknown field of the script, of the card and of an operation
-        "{\"actors\":[[{\"card\":0,\"op\":\"in\"},{\"family\":\"records\",\"op\":\"load\"}]],\"cards\":[{\"files\":[{\"data\":\"98\",\"kind\":\"transparent\",\"path\":\"2FE2\"}]}],\"name\":1,\"version\":1}",
-        "{\"actors\":[[{\"card\":0,\"op\":\"in\"},{\"family\":\"records\",\"op\":\"load\"}]],\"cards\":[{\"channels\":3,\"files\":[{\"data\":\"98\",\"kind\":\"transparent\",\"path\":\"2FE2\"}]}],\"version\":1}",
-        "{\"actors\":[[{\"card\":0,\"name\":\"a\",\"op\":\"in\"},{\"family\":\"records\",\"op\":\"load\"}]],\"cards\":[{\"files\":[{\"data\":\"98\",\"kind\":\"transparent\",\"path\":\"2FE2\"}]}],\"version\":1}",
-        // two cards, and a second file
-        "{\"actors\":[[{\"card\":0,\"op\":\"in\"},{\"family\":\"records\",\"op\":\"load\"}]],\"cards\":[{\"files\":[{\"data\":\"98\",\"kind\":\"transparent\",\"path\":\"2FE2\"}]},{\"files\":[{\"data\":\"98\",\"kind\":\"transparent\",\"path\":\"2FE2\"}]}],\"version\":1}",
-        "{\"actors\":[[{\"card\":0,\"op\":\"in\"},{\"family\":\"records\",\"op\":\"load\"}]],\"cards\":[{\"files\":[{\"data\":\"98\",\"kind\":\"transparent\",\"path\":\"2FE2\"},{\"data\":\"98\",\"kind\":\"transparent\",\"path\":\"2F05\"}]}],\"version\":1}",
-        // a file of another path, of no bytes, of a text that is not hexadecimal
-        "{\"actors\":[[{\"card\":0,\"op\":\"in\"},{\"family\":\"records\",\"op\":\"load\"}]],\"cards\":[{\"files\":[{\"data\":\"98\",\"kind\":\"transparent\",\"path\":\"2F05\"}]}],\"version\":1}",
-        "{\"actors\":[[{\"card\":0,\"op\":\"in\"},{\"family\":\"records\",\"op\":\"load\"}]],\"cards\":[{\"files\":[{\"data\":\"\",\"kind\":\"transparent\",\"path\":\"2FE2\"}]}],\"version\":1}",
-        "{\"actors\":[[{\"card\":0,\"op\":\"in\"},{\"family\":\"records\",\"op\":\"load\"}]],\"cards\":[{\"files\":[{\"data\":\"9\",\"kind\":\"transparent\",\"path\":\"2FE2\"}]}],\"version\":1}",
-        // a schedule with an entry above 1, another version, and another family
-        "{\"actors\":[[{\"card\":0,\"op\":\"in\"},{\"family\":\"records\",\"op\":\"load\"}]],\"cards\":[{\"files\":[{\"data\":\"98\",\"kind\":\"transparent\",\"path\":\"2FE2\"}]}],\"schedule\":[0,2],\"version\":1}",
-        "{\"actors\":[[{\"card\":0,\"op\":\"in\"},{\"family\":\"records\",\"op\":\"load\"}]],\"cards\":[{\"files\":[{\"data\":\"98\",\"kind\":\"transparent\",\"path\":\"2FE2\"}]}],\"version\":2}",
-        "{\"actors\":[[{\"card\":0,\"op\":\"in\"},{\"family\":\"fixed\",\"op\":\"load\"}]],\"cards\":[{\"files\":[{\"data\":\"98\",\"kind\":\"transparent\",\"path\":\"2FE2\"}]}],\"version\":1}",
-    ];
-    for text in refused {
-        let (status, sink) = call(rt.alloc(), "replay", text.as_bytes(), 0, 0)?;
+/// Each script is refused with the line behind it.
+fn refuses(rt: &impl Abort, alloc: Global, scripts: &[(&str, &str)]) -> Result<(), Fail> {
+    for (text, line) in scripts {
+        let (status, sink) = call(alloc, "replay", text.as_bytes(), 0, 0)?;
         assert_eq!(rt; status, 3, "for {text}");
-        assert!(rt; sink.bytes() == REFUSED.as_bytes(), "for {text}");
+        assert!(rt; sink.bytes() == line.as_bytes(), "for {text}");
     }
+    Ok(())
+}
+
+#[test]
+fn bytes_that_are_no_script_are_refused(rt: HostRuntime) -> Result<(), Fail> {
+    refuses(
+        &rt,
+        rt.alloc(),
+        &[
+            ("", "refused json 0 json\n"),
+            ("null", "refused json 0 json\n"),
+            (
+                r#"{"actors":[[{"card":0,"op":"in"},{"family":"records","op":"load"}]],"cards":[{"fi"#,
+                "refused json 0 json\n",
+            ),
+            (
+                r#"{"actors":[[]],"cards":[{"files":[]}],"name":1,"version":1}"#,
+                "refused other 0 form\n",
+            ),
+            (
+                r#"{"actors":[[]],"cards":[{"files":[]},{"files":[],"name":1}],"version":1}"#,
+                "refused cards 1 form\n",
+            ),
+            (
+                r#"{"actors":[[{"card":0,"name":"a","op":"in"}]],"cards":[{"files":[]}],"version":1}"#,
+                "refused actors 0 form\n",
+            ),
+            (
+                r#"{"actors":[[]],"cards":[{"files":[]}],"schedule":[0,2],"version":1}"#,
+                "refused schedule 1 target\n",
+            ),
+            (
+                r#"{"actors":[[]],"cards":[{"files":[]}],"version":2}"#,
+                "refused version 0 form\n",
+            ),
+        ],
+    )?;
     let (status, _) = call(rt.alloc(), "replay", &[0xFF], 0, 0)?;
     assert_eq!(rt; status, 3);
     Ok(())
+}
+
+/// The script of one actor with two operations, on these cards and with these further fields.
+fn refuses_later(rt: &impl Abort, alloc: Global, loads: &str, cards: &str) -> Result<(), Fail> {
+    let text = format!(in alloc;
+        "{{\"actors\":[[{{\"card\":0,\"op\":\"in\"}},{loads}]],\"cards\":{cards},\"version\":1}}"
+    )?;
+    refuses(rt, alloc, &[(text.as_str(), "refused other 0 later\n")])
+}
+
+const LOAD: &str = r#"{"family":"records","op":"load"}"#;
+
+#[test]
+fn scripts_that_use_more_are_refused(rt: HostRuntime) -> Result<(), Fail> {
+    let file = r#"{"data":"98","kind":"transparent","path":"2FE2"}"#;
+    let fixed = r#"{"family":"fixed","op":"load"}"#;
+    let two = format!(in rt.alloc(); "[{{\"files\":[{file}]}},{{\"files\":[{file}]}}]")?;
+    refuses_later(&rt, rt.alloc(), LOAD, two.as_str())?;
+    let one = format!(in rt.alloc(); "[{{\"files\":[{file}]}}]")?;
+    refuses_later(&rt, rt.alloc(), fixed, one.as_str())?;
+    let twice = format!(in rt.alloc(); "{LOAD},{LOAD}")?;
+    refuses_later(&rt, rt.alloc(), twice.as_str(), one.as_str())?;
+    let second = r#"{"data":"98","kind":"transparent","path":"2F05"}"#;
+    for files in [second, r#"{"data":"","kind":"transparent","path":"2FE2"}"#] {
+        let cards = format!(in rt.alloc(); "[{{\"files\":[{files}]}}]")?;
+        refuses_later(&rt, rt.alloc(), LOAD, cards.as_str())?;
+    }
+    let both = format!(in rt.alloc(); "[{{\"files\":[{file},{second}]}}]")?;
+    refuses_later(&rt, rt.alloc(), LOAD, both.as_str())?;
+    let channels = format!(in rt.alloc(); "[{{\"channels\":2,\"files\":[{file}]}}]")?;
+    refuses_later(&rt, rt.alloc(), LOAD, channels.as_str())
 }
 
 /// The script with blanks behind it, up to this length.
@@ -173,11 +220,13 @@ fn scheduled(alloc: Global, turns: usize) -> Result<String, AllocError> {
 
 #[test]
 fn scripts_have_limits(rt: HostRuntime) -> Result<(), Fail> {
-    for (len, wanted) in [(65_536, 0), (65_537, 3)] {
-        let bytes = padded(rt.alloc(), len)?;
-        let (status, _) = call(rt.alloc(), "replay", bytes.as_slice(), 0, 0)?;
-        assert_eq!(rt; status, wanted, "for {len} bytes");
-    }
+    let bytes = padded(rt.alloc(), 8_388_608)?;
+    let (status, _) = call(rt.alloc(), "replay", bytes.as_slice(), 0, 0)?;
+    assert_eq!(rt; status, 0);
+    let bytes = padded(rt.alloc(), 8_388_609)?;
+    let (status, sink) = call(rt.alloc(), "replay", bytes.as_slice(), 0, 0)?;
+    assert_eq!(rt; status, 8);
+    assert!(rt; sink.bytes() == "too long\n".as_bytes());
     for (turns, wanted) in [(100, 0), (101, 3)] {
         let text = scheduled(rt.alloc(), turns)?;
         let (status, _) = call(rt.alloc(), "replay", text.as_bytes(), 0, 0)?;

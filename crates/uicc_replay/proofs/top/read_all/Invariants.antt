@@ -1,5 +1,4 @@
-use Rattle.std.proofs.Common.{◌≡◌, ◌≤◌, ◌<◌, ℕ, ◌+◌, ◌-◌, ◌^◌, min, List, length, take, drop, Option, Some, None}
-use Rattle.std.specs.Prelude.{IfSome}
+use Rattle.std.proofs.Common.{◌≤◌, ◌-◌, length}
 use Rattle.uicc_replay.proofs.Reading.{HasGiven, Told}
 use Rattle.uicc_replay.proofs.top.read_all.Given as goal
 
