@@ -1,5 +1,5 @@
 -- Small words on bytes, lists and options that the definitions of all crates share.
-use Rattle.std.specs.Prelude.{ℕ, ◌+◌, ◌-◌, ◌*◌, ◌/◌, ◌%◌, ◌^◌, ◌==◌, ◌&&◌, Bool, true, false, nat_le, nat_eq, if◌then◌else◌, List, [], ◌∷◌, ◌++◌, length, replicate, Option, Some, None}
+use Rattle.std.specs.Prelude.{ℕ, ◌+◌, ◌-◌, ◌*◌, ◌/◌, ◌%◌, ◌^◌, ◌==◌, ◌&&◌, Bool, true, false, nat_le, nat_eq, if◌then◌else◌, List, [], ◌∷◌, ◌++◌, length, take, drop, replicate, Option, Some, None}
 use Rattle.std.specs.Cmp.Lexicographic.{pointwise}
 use Rattle.std.specs.List.{list_any}
 
@@ -40,6 +40,10 @@ is_empty (x ∷ xs) = false
 -- the bytes, filled up with `fill` to that length
 abbrev pub filled_to : ℕ → ℕ → List ℕ → List ℕ
 filled_to fill len bytes = bytes ++ replicate (len - length bytes) fill
+
+-- the bytes with those from this place on written over
+abbrev pub written_at : ℕ → List ℕ → List ℕ → List ℕ
+written_at at new old = take at old ++ new ++ drop (at + length new) old
 
 -- two options of numbers are the same
 abbrev pub same_number : Option ℕ → Option ℕ → Bool

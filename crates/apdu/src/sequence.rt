@@ -1,5 +1,6 @@
 // A list that contracts see as the list of its items.
-ghost use Rattle.std.specs.Prelude.{◌≡◌, [], ◌∷◌, ◌++◌, ◌<◌, ◌==◌, length, slice_get, slice_set, slice_index_or, take, OnOk, OnErr, OnSome};
+ghost use Rattle.std.specs.Prelude.{◌≡◌, [], ◌∷◌, ◌++◌, ◌<◌, ◌==◌, length, slice_get, slice_set, slice_index_or, take, Some, OnOk, OnErr, OnSome};
+ghost use Rattle.std.specs.List as lists;
 ghost use Rattle.std.specs.Option.{option_copied};
 
 use crate::Memory;
@@ -83,6 +84,15 @@ impl<T> Sequence<T> {
         ensures value { result.now ≡ slice_index_or self.old at result.now }
     {
         &mut self.items[at]
+    }
+
+    /// Takes an item out; those behind it move up.
+    pub fn remove(&mut self, at: usize) -> T
+        requires { at < length self.old }
+        ensures value { slice_get self.old at ≡ Some result }
+        ensures items { self.new ≡ lists.remove self.old at }
+    {
+        self.items.remove(at)
     }
 }
 

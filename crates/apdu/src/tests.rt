@@ -255,6 +255,10 @@ fn keeps_bytes_text_and_paths(rt: HostRuntime) -> Result<(), Fail> {
         bytes.copy_from_slice(&[3, 4]);
     }
     assert_eq!(rt; bytes.as_slice(), [3, 4].as_slice());
+    if bytes.as_slice().len() == 2 {
+        bytes.write_at(1, &[5]);
+    }
+    assert_eq!(rt; bytes.as_slice(), [3, 5].as_slice());
     assert_eq!(rt;
         Bytes::from_vec([5].to_vec(rt.alloc())?).as_slice(),
         [5].as_slice()

@@ -1,5 +1,6 @@
 // Lists of bytes, and text, as contracts see them: a list of bytes.
-ghost use Rattle.std.specs.Prelude.{◌≡◌, length, IfOk, IsUtf8, string_bytes};
+ghost use Rattle.std.specs.Prelude.{◌≡◌, ◌≤◌, ◌+◌, length, IfOk, IsUtf8, string_bytes};
+ghost use Rattle.apdu.specs.Words.{written_at};
 
 use crate::Memory;
 use std::alloc::Global;
@@ -48,6 +49,14 @@ impl Bytes {
         ensures { self.new ≡ bytes.now }
     {
         self.items.as_mut_slice().copy_from_slice(bytes);
+    }
+
+    /// Writes over the bytes from a place on, which takes no memory.
+    pub fn write_at(&mut self, at: usize, bytes: &[u8])
+        requires { at + length bytes.now ≤ length self.old }
+        ensures { self.new ≡ written_at at bytes.now self.old }
+    {
+        self.items.as_mut_slice()[at..at + bytes.len()].copy_from_slice(bytes);
     }
 }
 
