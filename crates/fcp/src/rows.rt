@@ -1,5 +1,6 @@
 // What a file holds.
-ghost use Rattle.std.specs.Prelude.{◌≡◌, ◌≤◌, ◌<◌, ◌^◌, ◌∷◌, ◌++◌, [], length, slice_get, slice_set, option_map, IfOk, OnOk, OnErr, List, ℕ, Option, IsTrue};
+ghost use Rattle.std.specs.Prelude.{◌≡◌, ◌≤◌, ◌<◌, ◌+◌, ◌^◌, ◌∷◌, ◌++◌, [], length, slice_get, slice_set, map, option_map, IfOk, IfSome, OnOk, OnErr, List, ℕ, Option, IsTrue};
+ghost use Rattle.apdu.specs.Words.{written_at};
 
 use apdu::{Bytes, Memory, Path, Sequence};
 use std::alloc::Global;
@@ -30,6 +31,27 @@ impl Model for Rows {
     ghost view = { λ r. record { kind = r.file_kind; width = r.row_width; rows = r.items } };
 
     ghost invariant = { λ r. HasRows r.file_kind r.row_width r.items };
+}
+
+// Writes over rows with as many of the same lengths.
+fn write_rows(items: &mut Sequence<Bytes>, rows: &[Bytes])
+    requires { map (λ (row : List ℕ). length row) items.old ≡ map (λ (row : List ℕ). length row) rows.now }
+    ensures { items.new ≡ rows.now }
+{
+    'rows: for i in 0..rows.len() {
+        items.at_mut(i).copy_from_slice(rows[i].as_slice());
+    }
+}
+
+// Puts copies of rows at the end.
+fn put_copies(alloc: Global, out: &mut Sequence<Bytes>, rows: &[Bytes]) -> Result<(), Memory>
+    ensures { OnOk result (out.new ≡ out.old ++ rows.now) }
+{
+    let [row, rest @ ..] = rows else {
+        return Ok(());
+    };
+    out.push(Bytes::from_slice(alloc, row.as_slice())?)?;
+    put_copies(alloc, out, rest)
 }
 
 impl Rows {
@@ -90,7 +112,8 @@ impl Rows {
     }
 
     pub fn row(&self, i: usize) -> Option<&[u8]>
-        ensures { option_map (λ r. r.now) result ≡ slice_get self.now.rows i }
+        ensures row { option_map (λ r. r.now) result ≡ slice_get self.now.rows i }
+        ensures wide { IfSome result (λ r. length r.now ≡ self.now.width) }
     {
         match self.items.get(i) {
             Some(row) => Some(row.as_slice()),
@@ -117,6 +140,40 @@ impl Rows {
         ensures { self.new ≡ with_row i row.now self.old }
     {
         self.items.at_mut(i).copy_from_slice(row);
+    }
+
+    /// Writes over a part of a row, which takes no memory.
+    pub fn write_at(&mut self, i: usize, at: usize, bytes: &[u8])
+        requires within { i < length self.old.rows }
+        requires inside { at + length bytes.now ≤ self.old.width }
+        ensures { IfSome (slice_get self.old.rows i) (λ row. self.new ≡ with_row i (written_at at bytes.now row) self.old) }
+    {
+        self.items.at_mut(i).write_at(at, bytes);
+    }
+
+    /// Writes over every row, which takes no memory.
+    #[tactic(auto, using(crate::proofs::Widths::same_lengths))]
+    pub fn copy_from(&mut self, other: &Rows)
+        requires kind { self.old.kind ≡ other.now.kind }
+        requires width { self.old.width ≡ other.now.width }
+        requires count { length self.old.rows ≡ length other.now.rows }
+        ensures { self.new ≡ other.now }
+    {
+        write_rows(&mut self.items, other.items.as_slice());
+    }
+
+    /// A copy of the rows.
+    pub fn copy(&self) -> Result<Rows, Memory>
+        ensures { IfOk result (λ r. r ≡ self.now) }
+    {
+        let mut items = Sequence::new(self.alloc);
+        put_copies(self.alloc, &mut items, self.items.as_slice())?;
+        Ok(Rows {
+            alloc: self.alloc,
+            file_kind: self.file_kind,
+            row_width: self.row_width,
+            items,
+        })
     }
 }
 

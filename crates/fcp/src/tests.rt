@@ -258,3 +258,28 @@ fn keeps_rows(rt: HostRuntime) -> Result<(), Fail> {
     assert!(rt; transparent.row(0) == Some([4, 5, 6].as_slice()));
     Ok(())
 }
+
+#[test]
+fn writes_over_a_part_of_a_row(rt: HostRuntime) -> Result<(), Fail> {
+    let mut linear = Rows::linear(rt.alloc(), 3);
+    linear.push(&[1, 2, 3])?;
+    linear.push(&[4, 5, 6])?;
+    linear.write_at(1, 1, &[7, 8]);
+    assert!(rt; linear.row(0) == Some([1, 2, 3].as_slice()));
+    assert!(rt; linear.row(1) == Some([4, 7, 8].as_slice()));
+    Ok(())
+}
+
+#[test]
+fn copies_rows(rt: HostRuntime) -> Result<(), Fail> {
+    let mut old = Rows::linear(rt.alloc(), 2);
+    old.push(&[1, 2])?;
+    old.push(&[3, 4])?;
+    let mut copy = old.copy()?;
+    copy.set(0, &[5, 6]);
+    assert!(rt; old.row(0) == Some([1, 2].as_slice()));
+    old.copy_from(&copy);
+    assert!(rt; old.row(0) == Some([5, 6].as_slice()));
+    assert!(rt; old.row(1) == Some([3, 4].as_slice()));
+    Ok(())
+}
