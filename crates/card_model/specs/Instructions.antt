@@ -41,7 +41,3 @@ kind_of TerminalResponse = Toolkit
 abbrev pub is_get_response : Instruction → Bool
 is_get_response GetResponse = true
 is_get_response _ = false
-
-abbrev pub is_fetch : Instruction → Bool
-is_fetch Fetch = true
-is_fetch _ = false

@@ -10,5 +10,6 @@ pub mod Verify
 pub mod Channels
 pub mod Toolkit
 pub mod Step
+pub mod Lends
 pub mod Limits
 pub mod Slot

@@ -1,5 +1,6 @@
--- The limits of simulated cards and changes on which the card's step relies: what is answered fits a response.
-use Rattle.std.specs.Prelude.{◌≤◌, ℕ, List, length, All, IfSome}
+-- The limits of simulated cards and changes on which the card's step relies: what is answered fits a response, and what
+-- changes give a card has room.
+use Rattle.std.specs.Prelude.{◌≤◌, ◌+◌, ℕ, List, [], ◌∷◌, length, All, IfSome}
 use Rattle.card_model.specs.declared.world.FileState.{FileState}
 use Rattle.card_model.specs.declared.world.Change.{Change}
 use Rattle.card_model.specs.declared.world.CardState.{CardState}
@@ -20,8 +21,18 @@ pub record IsFittingCard (card : CardState) : Type 0 where
   pub applications : length card.aids ≤ 8
 
 -- a change lists at most eight files
-abbrev pub IsFittingChange : Change → Type 0
-IsFittingChange change = length change.list ≤ 8
+pub record IsFittingChange (change : Change) : Type 0 where
+  pub list : length change.list ≤ 8
+  pub files : All HasFittingParameters change.files
+
+-- how many files the changes have
+abbrev pub count_files : List Change → ℕ
+count_files [] = 0
+count_files (change ∷ changes) = length change.files + count_files changes
+
+-- a card has room for its own files and for those of every change
+abbrev pub HasRoom : List Change → CardState → Type 0
+HasRoom changes card = length card.files + count_files changes ≤ 4160
 
 pub record IsFittingWorld (w : World) : Type 0 where
   pub cards : All IsFittingCard w.cards

@@ -1,6 +1,6 @@
 -- The card as a table of commands, ETSI TS 102 221 clause 11 and TS 102 223 clause 6, in this project's profile,
 -- and the events of the world round it. The rows stand in Select, GetResponse, Read, Update, Verify, Channels and Toolkit.
-use Rattle.std.specs.Prelude.{ℕ, not, Bool, true, false, if◌then◌else◌, List, [], ◌∷◌, ◌++◌, map, slice_get, slice_set, Option, Some, None, option_and_then}
+use Rattle.std.specs.Prelude.{ℕ, not, Bool, false, if◌then◌else◌, List, [], ◌∷◌, ◌++◌, map, slice_get, slice_set, Option, Some, None, option_and_then}
 use Rattle.apdu.specs.Values.{CommandValue, ResponseValue}
 use Rattle.apdu.specs.Apdu.{channel_of, is_toolkit, refusal}
 use Rattle.apdu.specs.declared.class.ClassKind.{ClassKind}
@@ -15,7 +15,7 @@ use Rattle.card_model.specs.declared.world.World.{World}
 use Rattle.card_model.specs.declared.world.WorldEvent.{WorldEvent}
 use Rattle.card_model.specs.declared.world.WorldEvent.TheVariants.{Arm, Out, Insert}
 use Rattle.card_model.specs.Card.{channel_place, fresh_channel}
-use Rattle.card_model.specs.Instructions.{instruction_of, kind_of, is_fetch}
+use Rattle.card_model.specs.Instructions.{instruction_of, kind_of}
 use Rattle.card_model.specs.Answers.{refuses}
 use Rattle.card_model.specs.Select.{select_row}
 use Rattle.card_model.specs.GetResponse.{without_waiting, get_response_row}
@@ -24,14 +24,6 @@ use Rattle.card_model.specs.Update.{update_binary_row, update_record_row}
 use Rattle.card_model.specs.Verify.{verify_row}
 use Rattle.card_model.specs.Channels.{manage_channel_row}
 use Rattle.card_model.specs.Toolkit.{status_row, terminal_profile_row, fetch_row, terminal_response_row}
-
--- a simulated card serves every row but FETCH so far
-abbrev pub is_served_row : Option Instruction → Bool
-is_served_row None = true
-is_served_row (Some row) = not (is_fetch row)
-
-abbrev pub is_served : CommandValue → Bool
-is_served c = is_served_row (instruction_of c.ins)
 
 -- ---- the table
 

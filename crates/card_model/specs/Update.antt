@@ -1,7 +1,7 @@
 -- UPDATE BINARY and UPDATE RECORD, ETSI TS 102 221 clauses 11.1.4 and 11.1.6.
-use Rattle.std.specs.Prelude.{ℕ, ◌+◌, ◌-◌, ◌==◌, ◌||◌, not, if◌then◌else◌, List, ◌++◌, length, take, drop, nat_lt, nat_le, slice_get, slice_set, Option, Some, None}
+use Rattle.std.specs.Prelude.{ℕ, ◌+◌, ◌-◌, ◌==◌, ◌||◌, not, if◌then◌else◌, List, length, nat_lt, nat_le, slice_get, slice_set, Option, Some, None}
 use Rattle.apdu.specs.Values.{CommandValue, ResponseValue}
-use Rattle.apdu.specs.Words.{is_empty}
+use Rattle.apdu.specs.Words.{is_empty, written_at}
 use Rattle.fcp.specs.Content.{is_transparent, is_linear, first_row, with_row}
 use Rattle.card_model.specs.declared.world.FileState.{FileState}
 use Rattle.card_model.specs.declared.world.ChannelState.{ChannelState}
@@ -19,10 +19,6 @@ abbrev pub with_written : CardState → ℕ → FileState → ℕ → List ℕ �
 with_written card place file i row = record card { files = slice_set card.files place (with_file_row file i row) }
 
 -- ---- UPDATE BINARY
-
--- the bytes with those from this offset on written over
-abbrev pub written_at : ℕ → List ℕ → List ℕ → List ℕ
-written_at at new old = take at old ++ new ++ drop (at + length new) old
 
 -- P1 P2 is the offset; bit 8 of P1 would be a short file id. The body may not pass the size
 abbrev pub binary_refusal : CardState → FileState → CommandValue → Option ℕ

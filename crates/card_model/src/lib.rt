@@ -7,7 +7,7 @@ mod slot;
 mod world;
 
 pub use instruction::Instruction;
-pub use lists::{ArmedList, ChannelList};
+pub use lists::{ArmedList, CardFiles, ChannelList};
 pub use slot::{ScriptedSlot, Slot, SlotFault, WorldRefusal};
 pub use world::{
     AidList, CardState, Change, Changes, ChannelState, Fault, Faults, FileList, FileState, Images,

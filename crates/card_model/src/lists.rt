@@ -1,11 +1,12 @@
-// Lists of a fixed room, which take no memory.
-ghost use Rattle.std.specs.Prelude.{◌≡◌, ◌<◌, ◌∷◌, ◌++◌, [], length, drop, slice_get, slice_set, IsOk, OnOk, OnErr, OnSome};
+// Lists of a fixed room, which take no memory once they are made.
+ghost use Rattle.std.specs.Prelude.{◌≡◌, ◌<◌, ◌∷◌, ◌++◌, [], length, drop, slice_get, slice_set, slice_index_or, IsOk, IfOk, OnOk, OnErr, OnSome};
 ghost use Rattle.std.specs.List.{remove};
 ghost use Rattle.std.specs.Option.{option_copied};
 
-use crate::ChannelState;
+use crate::{ChannelState, FileState};
 use apdu::Memory;
 use arrayvec::ArrayVec;
+use std::alloc::Global;
 use std::marker::Model;
 
 /// The open channels of a card, at most twenty (ETSI TS 102 221 clause 8.7). Contracts see the list.
@@ -140,5 +141,77 @@ impl ArmedList {
             Ok(()) => Ok(()),
             Err(_) => Err(Memory),
         }
+    }
+}
+
+/// The most files that a card can come to have: 64 of its own, and 64 of each of 64 changes.
+const MAX_FILES: usize = 4160;
+
+/// The files of a card, at most 4,160, for which it takes the room when it is made. Contracts see the list.
+#[derive(Drop)]
+pub struct CardFiles {
+    items: Vec<FileState>,
+}
+
+impl Model for CardFiles {
+    ghost use Rattle.std.specs.Prelude.{List, ◌≤◌};
+    ghost use Rattle.std.specs.Vec.{vec_capacity};
+    ghost use Rattle.card_model.specs.declared.world.FileState.{FileState};
+
+    ghost Value = { List FileState };
+
+    ghost view = { λ l. l.items.items };
+
+    ghost invariant = { λ l. 4160 ≤ vec_capacity l.items };
+}
+
+impl CardFiles {
+    ghost use Rattle.std.specs.Borrow.{sem};
+    ghost use Rattle.card_model.specs.Lends.{lends_file};
+
+    pub fn new(alloc: Global) -> Result<CardFiles, Memory>
+        ensures { IfOk result (λ files. files ≡ []) }
+    {
+        Ok(CardFiles {
+            items: Vec::with_capacity(alloc, MAX_FILES)?,
+        })
+    }
+
+    pub fn len(&self) -> usize
+        ensures { result ≡ length self.now }
+    {
+        self.items.len()
+    }
+
+    pub fn as_slice(&self) -> &[FileState]
+        ensures { result.now ≡ self.now }
+    {
+        self.items.as_slice()
+    }
+
+    pub fn get(&self, at: usize) -> Option<&FileState>
+        ensures value { option_copied result ≡ slice_get self.now at }
+        ensures within { OnSome result (at < length self.now) }
+    {
+        self.items.get(at)
+    }
+
+    /// The file at an index, for writing.
+    pub fn at_mut(&mut self, at: usize) -> &mut FileState
+        requires { at < length self.old }
+        ensures* writes_back { sem 𝓛 (lends_file self.entry at result) }
+        ensures value { result.now ≡ slice_index_or self.old at result.now }
+    {
+        &mut self.items[at]
+    }
+
+    /// Puts a file at the end. There is no room past 4,160.
+    pub fn push(&mut self, file: FileState) -> Result<(), Memory>
+        ensures ok { OnOk result (self.new ≡ self.old ++ file ∷ []) }
+        ensures err { OnErr result (self.new ≡ self.old) }
+        ensures room { length self.old < 4160 → IsOk result }
+    {
+        self.items.push(file)?;
+        Ok(())
     }
 }

@@ -1,8 +1,7 @@
 // The slot of a card, and what its calls mean where it tells its world.
-ghost use Rattle.std.specs.Prelude.{◌≡◌, ℕ, Option, None, IsTrue, IfOk, OnOk, OnErr};
+ghost use Rattle.std.specs.Prelude.{◌≡◌, ℕ, Option, None, IfOk, OnOk, OnErr};
 ghost use Rattle.apdu.specs.Stream.{HasCause};
 ghost use Rattle.card_model.specs.declared.world.World.{World};
-ghost use Rattle.card_model.specs.Step.{is_served};
 ghost use Rattle.card_model.specs.Slot.{Plan, Answers, MayHaveActed, Resets, MayHaveReset, Counts, ExchangesAsPlanned, ResetsAsPlanned, Happens, IsRefused};
 
 use crate::WorldEvent;
@@ -40,7 +39,6 @@ pub trait Slot {
 
     /// Sends a command, and gives the card's response.
     fn exchange(&mut self, command: &Command) -> Result<Response, SlotFault>
-        requires { IsTrue (is_served command.now) }
         ensures ok { IfOk result (Answers (world self.old) (world self.new) command.now) }
         ensures err { OnErr result (MayHaveActed (world self.old) (world self.new) command.now) }
         ensures counts { Counts (plan self.old) (plan self.new) }

@@ -1,6 +1,6 @@
 // The world: the cards, which of them is in the slot, and the changes that may be armed.
 
-use crate::{ArmedList, ChannelList};
+use crate::{ArmedList, CardFiles, ChannelList};
 use apdu::{Bytes, Path, Sequence};
 use arrayvec::ArrayVec;
 use fcp::{ArrRef, Rows};
@@ -32,7 +32,7 @@ pub struct World {
 #[derive(Drop)]
 pub struct CardState {
     /// The files, each path once.
-    pub files: FileList,
+    pub files: CardFiles,
     /// The applications. The USIM is the first whose AID begins `A0000000871002`.
     pub aids: AidList,
     /// The PINs. Where several have one key reference, the first of them alone counts.
