@@ -35,8 +35,17 @@ file_fits file e = template_fits file.fcp (second (is_kind_within file.kind) (is
 aid_fits : (aid : List ℕ) → is_aid aid ≡ true → IsAid aid
 aid_fits aid e = leb-true (length aid) 16 (second (nat_le 5 (length aid)) (nat_le (length aid) 16) e)
 
-card_fits : (card : CardSpec) → is_card card ≡ true → IsFittingCard (card_of card)
-card_fits card e =
+files_fit : (files : List FileSpec) → are_files_within files ≡ true → All HasFittingParameters (map file_of files)
+files_fit files e = All-map HasFittingParameters file_of files (passed is_file_within (λ (file : FileSpec). HasFittingParameters (file_of file)) file_fits files (second (nat_le (length files) 64) (list_all is_file_within files) e))
+
+-- what the limits of a card say
+record CardLimits (card : CardSpec) : Type 0 where
+  files : are_files_within card.files ≡ true
+  count : nat_le (length card.aids) 8 ≡ true
+  aids : list_all is_aid card.aids ≡ true
+
+card_limits : (card : CardSpec) → is_card card ≡ true → CardLimits card
+card_limits card e =
     let files = are_files_within card.files in
     let aids = nat_le (length card.aids) 8 in
     let each_aid = list_all is_aid card.aids in
@@ -45,22 +54,35 @@ card_fits card e =
     let with_keys = first (files && aids && each_aid && keys) (nat_le card.channels 3) within in
     let with_aids = first (files && aids && each_aid) keys with_keys in
     let counted = first (files && aids) each_aid with_aids in
+    record { files = first files aids counted; count = second files aids counted; aids = second (files && aids) each_aid with_aids }
+
+card_fits : (card : CardSpec) → is_card card ≡ true → IsFittingCard (card_of card)
+card_fits card e =
+    let limits = card_limits card e in
     record {
-      files = All-map HasFittingParameters file_of card.files (passed is_file_within (λ (file : FileSpec). HasFittingParameters (file_of file)) file_fits card.files (second (nat_le (length card.files) 64) (list_all is_file_within card.files) (first files aids counted)));
-      aids = passed is_aid IsAid aid_fits card.aids (second (files && aids) each_aid with_aids);
-      applications = leb-true (length card.aids) 8 (second files aids counted);
+      files = files_fit card.files limits.files;
+      aids = passed is_aid IsAid aid_fits card.aids limits.aids;
+      applications = leb-true (length card.aids) 8 limits.count;
     }
 
 pub cards_fit : (cards : List CardSpec) → list_all is_card cards ≡ true → All IsFittingCard (map card_of cards)
 cards_fit cards e = All-map IsFittingCard card_of cards (passed is_card (λ (card : CardSpec). IsFittingCard (card_of card)) card_fits cards e)
 
-change_fits : (change : ChangeSpec) → is_change change ≡ true → IsFittingChange (change_of change)
-change_fits change e =
+change_within : (change : ChangeSpec) → is_change change ≡ true → is_change_within change ≡ true
+change_within change e =
     let within = is_change_within change in
     let placed = is_change_placed change in
     let shape = have_shape change.files in
-    let listed = first within placed (first (within && placed) shape (first (within && placed && shape) (is_honest change) e)) in
-    leb-true (length change.list) 8 (first (nat_le (length change.list) 8) (are_files_within change.files) listed)
+    first within placed (first (within && placed) shape (first (within && placed && shape) (is_honest change) e))
+
+change_files : (change : ChangeSpec) → is_change change ≡ true → are_files_within change.files ≡ true
+change_files change e = second (nat_le (length change.list) 8) (are_files_within change.files) (change_within change e)
+
+change_fits : (change : ChangeSpec) → is_change change ≡ true → IsFittingChange (change_of change)
+change_fits change e = record {
+  list = leb-true (length change.list) 8 (first (nat_le (length change.list) 8) (are_files_within change.files) (change_within change e));
+  files = files_fit change.files (change_files change e);
+}
 
 pub changes_fit : (changes : List ChangeSpec) → list_all is_change changes ≡ true → All IsFittingChange (map change_of changes)
 changes_fit changes e = All-map IsFittingChange change_of changes (passed is_change (λ (change : ChangeSpec). IsFittingChange (change_of change)) change_fits changes e)

@@ -11,8 +11,8 @@ ghost use Rattle.script.specs.World as spec;
 use crate::{CardSpec, ChangeSpec, FileSpec, KeySpec, KindSpec, Script};
 use apdu::{Bytes, Memory, Path, Sequence};
 use card_model::{
-    AidList, ArmedList, CardState, Change, Changes, ChannelList, ChannelState, Fault, Faults,
-    FileList, FileState, Images, KeyList, PathList, PinState,
+    AidList, ArmedList, CardFiles, CardState, Change, Changes, ChannelList, ChannelState, Fault,
+    Faults, FileList, FileState, Images, KeyList, PathList, PinState,
 };
 use fcp::Rows;
 use std::alloc::Global;
@@ -78,7 +78,20 @@ fn file_of(alloc: Global, file: &FileSpec) -> Result<FileState, Memory>
     })
 }
 
-/// Puts files at the end.
+/// Puts files at the end of those of a card.
+fn put_card_files(alloc: Global, out: &mut CardFiles, files: &[FileSpec]) -> Result<(), Memory>
+    requires within { list_all is_file_within files.now ≡ true }
+    requires shape { list_all has_shape files.now ≡ true }
+    ensures { OnOk result (out.new ≡ out.old ++ map spec.file_of files.now) }
+{
+    let [file, rest @ ..] = files else {
+        return Ok(());
+    };
+    out.push(file_of(alloc, file)?)?;
+    put_card_files(alloc, out, rest)
+}
+
+/// Puts files at the end of those of a change.
 fn put_files(alloc: Global, out: &mut FileList, files: &[FileSpec]) -> Result<(), Memory>
     requires within { list_all is_file_within files.now ≡ true }
     requires shape { list_all has_shape files.now ≡ true }
@@ -130,8 +143,8 @@ fn card_of(alloc: Global, card: &CardSpec) -> Result<CardState, Memory>
     requires { is_card card.now ≡ true }
     ensures { IfOk result (λ c. c ≡ spec.card_of card.now) }
 {
-    let mut files = Sequence::new(alloc);
-    put_files(alloc, &mut files, card.files.as_slice())?;
+    let mut files = CardFiles::new(alloc)?;
+    put_card_files(alloc, &mut files, card.files.as_slice())?;
     let mut aids = Sequence::new(alloc);
     put_aids(alloc, &mut aids, card.aids.as_slice())?;
     let mut keys = Sequence::new(alloc);
