@@ -1,16 +1,17 @@
 -- Cards and changes that keep their rules fit what a simulated slot asks.
-use Rattle.std.proofs.Common.{◌≡◌, ℕ, ◌≤◌, Bool, true, false, ◌&&◌, List, [], ◌∷◌, length, map, Option, Some, None, All, IfSome, refl}
+use Rattle.std.proofs.Common.{◌≡◌, ℕ, ◌*◌, ◌≤◌, Bool, true, false, ◌&&◌, List, [], ◌∷◌, length, map, Option, Some, None, All, IfSome, refl, arith}
 use Rattle.std.specs.Prelude.{nat_le}
 use Rattle.std.specs.List.{list_all}
 use Rattle.std.proofs.lemmas.Bool.{leb-true}
+use Rattle.std.proofs.lemmas.List.{length-map}
 use Rattle.std.proofs.lemmas.List.Elements.{All-nil, All-cons, All-map}
-use Rattle.card_model.specs.Limits.{HasFittingParameters, IsAid, IsFittingCard, IsFittingChange}
+use Rattle.card_model.specs.Limits.{HasFittingParameters, IsAid, IsFittingCard, IsFittingChange, count_files}
 use Rattle.script.specs.declared.types.FileSpec.{FileSpec}
 use Rattle.script.specs.declared.types.CardSpec.{CardSpec}
 use Rattle.script.specs.declared.types.ChangeSpec.{ChangeSpec}
 use Rattle.script.specs.Files.{is_kind_within, is_template_within, is_file_within, are_files_within, are_placed, have_shape}
 use Rattle.script.specs.Cards.{is_aid, is_card_within, has_card_shape, is_card, is_change_within, is_change_placed, is_honest, is_change}
-use Rattle.script.specs.World.{file_of, card_of, change_of}
+use Rattle.script.specs.World.{file_of, card_of, HasFewFiles, change_of}
 
 first : (a b : Bool) → (a && b) ≡ true → a ≡ true
 first true b e = refl
@@ -37,6 +38,12 @@ aid_fits aid e = leb-true (length aid) 16 (second (nat_le 5 (length aid)) (nat_l
 
 files_fit : (files : List FileSpec) → are_files_within files ≡ true → All HasFittingParameters (map file_of files)
 files_fit files e = All-map HasFittingParameters file_of files (passed is_file_within (λ (file : FileSpec). HasFittingParameters (file_of file)) file_fits files (second (nat_le (length files) 64) (list_all is_file_within files) e))
+
+files_few : (files : List FileSpec) → are_files_within files ≡ true → length (map file_of files) ≤ 64
+files_few files e =
+    let few = leb-true (length files) 64 (first (nat_le (length files) 64) (list_all is_file_within files) e) in
+    let same = length-map files file_of in
+    omega (arith, few, same)
 
 -- what the limits of a card say
 record CardLimits (card : CardSpec) : Type 0 where
@@ -68,6 +75,12 @@ card_fits card e =
 pub cards_fit : (cards : List CardSpec) → list_all is_card cards ≡ true → All IsFittingCard (map card_of cards)
 cards_fit cards e = All-map IsFittingCard card_of cards (passed is_card (λ (card : CardSpec). IsFittingCard (card_of card)) card_fits cards e)
 
+card_few : (card : CardSpec) → is_card card ≡ true → HasFewFiles (card_of card)
+card_few card e = files_few card.files (card_limits card e).files
+
+pub cards_few : (cards : List CardSpec) → list_all is_card cards ≡ true → All HasFewFiles (map card_of cards)
+cards_few cards e = All-map HasFewFiles card_of cards (passed is_card (λ (card : CardSpec). HasFewFiles (card_of card)) card_few cards e)
+
 change_within : (change : ChangeSpec) → is_change change ≡ true → is_change_within change ≡ true
 change_within change e =
     let within = is_change_within change in
@@ -86,3 +99,15 @@ change_fits change e = record {
 
 pub changes_fit : (changes : List ChangeSpec) → list_all is_change changes ≡ true → All IsFittingChange (map change_of changes)
 changes_fit changes e = All-map IsFittingChange change_of changes (passed is_change (λ (change : ChangeSpec). IsFittingChange (change_of change)) change_fits changes e)
+
+counted : (changes : List ChangeSpec) → list_all is_change changes ≡ true → count_files (map change_of changes) ≤ 64 * length changes
+counted [] e = omega arith
+counted (change ∷ changes) e =
+    let few = files_few change.files (change_files change (first (is_change change) (list_all is_change changes) e)) in
+    let others = counted changes (second (is_change change) (list_all is_change changes) e) in
+    omega (arith, few, others)
+
+pub changes_few : (changes : List ChangeSpec) → list_all is_change changes ≡ true → length changes ≤ 64 → count_files (map change_of changes) ≤ 4096
+changes_few changes e few =
+    let files = counted changes e in
+    omega (arith, files, few)

@@ -1,7 +1,9 @@
 -- What is read keeps the rules: the cards and changes of a script that bytes are.
-use Rattle.std.proofs.Common.{◌≡◌, ℕ, Bool, true, false, ◌&&◌, if◌then◌else◌, List, [], ◌∷◌, ◌++◌, length, Option, Some, None, Result, Ok, Err, refl, sym, ap, subst, ◌∙◌}
+use Rattle.std.proofs.Common.{◌≡◌, ◌≤◌, ◌<◌, ℕ, Bool, true, false, ◌&&◌, if◌then◌else◌, List, [], ◌∷◌, ◌++◌, length, Option, Some, None, Result, Ok, Err, refl, sym, ap, subst, ◌∙◌, arith}
 use Rattle.std.specs.Prelude.{nat_lt, nat_le, is_some, option_and_then, codes, IfOk}
 use Rattle.std.specs.List.{list_all}
+use Rattle.std.proofs.lemmas.Bool.{and_parts, ltb-true}
+use Rattle.std.proofs.lemmas.List.{length-append}
 use Rattle.std.proofs.lemmas.List.Folds.{list_all-append}
 use Rattle.serde_json.specs.Data.{Data}
 use Rattle.serde_json.specs.Find.{as_object, get}
@@ -110,18 +112,26 @@ pub at_item_then : {A : Type 0} (p : Part) (i : ℕ) (r : Result A Why) (x : A) 
 at_item_then p i (Ok y) x e = cc
 at_item_then p i (Err word) x e = absurd (cc)
 
--- where each item that is read passes a test, all items of the part do
-pub items_kept : {A : Type 0} (kept : A → Bool) (reading : List A → Data → Result A Why) (p : Part) → ((before : List A) (d : Data) (x : A) → reading before d ≡ Ok x → kept x ≡ true)
-    → (ds : List Data) (before xs : List A) → items_from reading p before ds ≡ Ok xs → list_all kept before ≡ true → list_all kept xs ≡ true
-items_kept kept reading p each [] before xs e h =
+-- what stays as each further item is read holds of all items of the part
+items_kept : {A : Type 0} (P : List A → Type 0) (reading : List A → Data → Result A Why) (p : Part) → ((before : List A) (d : Data) (x : A) → reading before d ≡ Ok x → P before → P (before ++ x ∷ []))
+    → (ds : List Data) (before xs : List A) → items_from reading p before ds ≡ Ok xs → P before → P xs
+items_kept P reading p each [] before xs e h =
     let same : before ≡ xs = cc in
-    let P : List _ → Type 0 = λ ys. list_all kept ys ≡ true in
     subst P same h
-items_kept kept reading p each (d ∷ ds) before xs e h =
+items_kept P reading p each (d ∷ ds) before xs e h =
     let first = bind_then (at_item p (length before) (reading before d)) (λ (x : _). items_from reading p (before ++ x ∷ []) ds) xs e in
     let item = at_item_then p (length before) (reading before d) first.0 first.1.0 in
-    items_kept kept reading p each ds (before ++ first.0 ∷ []) xs first.1.1
-    (list_all-append kept before (first.0 ∷ []) ∙ both (list_all kept before) (list_all kept (first.0 ∷ [])) h (both (kept first.0) true (each before d first.0 item) refl))
+    items_kept P reading p each ds (before ++ first.0 ∷ []) xs first.1.1 (each before d first.0 item h)
+
+-- all items pass a test where those before the last do, and the last does
+appended : {A : Type 0} (test : A → Bool) (before : List A) (x : A) → list_all test before ≡ true → test x ≡ true → list_all test (before ++ x ∷ []) ≡ true
+appended test before x h e = list_all-append test before (x ∷ []) ∙ both (list_all test before) (list_all test (x ∷ [])) h (both (test x) true e refl)
+
+abbrev AreCards : List CardSpec → Type 0
+AreCards cards = list_all is_card cards ≡ true
+
+card_added : (before : List CardSpec) (d : Data) (card : CardSpec) → card_item before d ≡ Ok card → AreCards before → AreCards (before ++ card ∷ [])
+card_added before d card e h = appended is_card before card h (card_kept before d card e)
 
 -- ---- changes
 
@@ -178,26 +188,48 @@ change_kept before d change e =
     let form = bind_then (change_form d) (checked_change before) change e in
     checked_change_kept before form.0 change form.1.1
 
+-- a change is read behind at most 63 others
+change_place : (before : List ChangeSpec) (d : Data) (change : ChangeSpec) → change_item before d ≡ Ok change → length before < 64
+unfolding change_item
+change_place before d change e =
+    let form = bind_then (change_form d) (checked_change before) change e in
+    let few = rule_then why.Form (nat_le (length form.0.list) 8) (rule why.Limit (nat_lt (length before) 64 && are_files_within form.0.files) >>= λ (u : Unit {0}). change_with_paths form.0 >>= shaped_change) change form.1.1 in
+    let within = rule_then why.Limit (nat_lt (length before) 64 && are_files_within form.0.files) (change_with_paths form.0 >>= shaped_change) change few.1 in
+    ltb-true (length before) 64 (and_parts (nat_lt (length before) 64) (are_files_within form.0.files) within.0).0
+
+-- at most 64 changes, each of which keeps the rules of a change
+record AreChanges (changes : List ChangeSpec) : Type 0 where
+  each : list_all is_change changes ≡ true
+  few : length changes ≤ 64
+
+change_added : (before : List ChangeSpec) (d : Data) (change : ChangeSpec) → change_item before d ≡ Ok change → AreChanges before → AreChanges (before ++ change ∷ [])
+change_added before d change e h =
+    let place = change_place before d change e in
+    let longer = length-append before (change ∷ []) in
+    record {
+      each = appended is_change before change h.each (change_kept before d change e);
+      few = omega (arith, place, longer);
+    }
+
 -- ---- parts
 
-required_kept : {A : Type 0} (kept : A → Bool) (reading : List A → Data → Result A Why) (p : Part) → ((before : List A) (d : Data) (x : A) → reading before d ≡ Ok x → kept x ≡ true)
-    → (o : Option (List Data)) (xs : List A) → required_list reading p o ≡ Ok xs → list_all kept xs ≡ true
-required_kept kept reading p each None xs e = absurd (cc)
-required_kept kept reading p each (Some []) xs e = absurd (cc)
-required_kept kept reading p each (Some (d ∷ ds)) xs e = items_kept kept reading p each (d ∷ ds) [] xs e refl
+required_kept : {A : Type 0} (P : List A → Type 0) (reading : List A → Data → Result A Why) (p : Part) → ((before : List A) (d : Data) (x : A) → reading before d ≡ Ok x → P before → P (before ++ x ∷ []))
+    → P [] → (o : Option (List Data)) (xs : List A) → required_list reading p o ≡ Ok xs → P xs
+required_kept P reading p each none None xs e = absurd (cc)
+required_kept P reading p each none (Some []) xs e = absurd (cc)
+required_kept P reading p each none (Some (d ∷ ds)) xs e = items_kept P reading p each (d ∷ ds) [] xs e none
 
-present_kept : {A : Type 0} (kept : A → Bool) (reading : List A → Data → Result A Why) (p : Part) → ((before : List A) (d : Data) (x : A) → reading before d ≡ Ok x → kept x ≡ true)
-    → (o : Option (List Data)) (xs : List A) → present_list reading p o ≡ Ok xs → list_all kept xs ≡ true
-present_kept kept reading p each None xs e = absurd (cc)
-present_kept kept reading p each (Some ds) xs e = items_kept kept reading p each ds [] xs e refl
+present_kept : {A : Type 0} (P : List A → Type 0) (reading : List A → Data → Result A Why) (p : Part) → ((before : List A) (d : Data) (x : A) → reading before d ≡ Ok x → P before → P (before ++ x ∷ []))
+    → P [] → (o : Option (List Data)) (xs : List A) → present_list reading p o ≡ Ok xs → P xs
+present_kept P reading p each none None xs e = absurd (cc)
+present_kept P reading p each none (Some ds) xs e = items_kept P reading p each ds [] xs e none
 
-optional_kept : {A : Type 0} (kept : A → Bool) (reading : List A → Data → Result A Why) (p : Part) → ((before : List A) (d : Data) (x : A) → reading before d ≡ Ok x → kept x ≡ true)
-    → (o : Option Data) (xs : List A) → optional_list reading p o ≡ Ok xs → list_all kept xs ≡ true
-optional_kept kept reading p each None xs e =
-    let none : [] ≡ xs = cc in
-    let P : List _ → Type 0 = λ ys. list_all kept ys ≡ true in
-    subst P none refl
-optional_kept kept reading p each (Some d) xs e = present_kept kept reading p each (list_of d) xs e
+optional_kept : {A : Type 0} (P : List A → Type 0) (reading : List A → Data → Result A Why) (p : Part) → ((before : List A) (d : Data) (x : A) → reading before d ≡ Ok x → P before → P (before ++ x ∷ []))
+    → P [] → (o : Option Data) (xs : List A) → optional_list reading p o ≡ Ok xs → P xs
+optional_kept P reading p each none None xs e =
+    let same : [] ≡ xs = cc in
+    subst P same none
+optional_kept P reading p each none (Some d) xs e = present_kept P reading p each none (list_of d) xs e
 
 pub bind_gives : {A B E : Type 0} (r : Result A E) (f : A → Result B E) (y : B) (P : Type 0) → (r >>= f) ≡ Ok y → ((x : A) → r ≡ Ok x → f x ≡ Ok y → P) → P
 bind_gives (Ok x) f y P e h = h x refl e
@@ -217,9 +249,11 @@ parts_kept d s e =
     let whole : Script = record { version = version; cards = cards; actors = actors; changes = changes; schedule = schedule; faults = faults; budget = budget } in
     let same : whole ≡ s = cc in
     let P : Script → Type 0 = λ t. KeepsCardRules t in
+    let are_changes = optional_kept AreChanges change_item part.Changes change_added (record { each = refl; few = omega arith }) (get (codes "changes") d) changes of_changes in
     subst P same (record {
-      cards = required_kept is_card card_item part.Cards card_kept (option_and_then list_of (get (codes "cards") d)) cards of_cards;
-      changes = optional_kept is_change change_item part.Changes change_kept (get (codes "changes") d) changes of_changes;
+      cards = required_kept AreCards card_item part.Cards card_added refl (option_and_then list_of (get (codes "cards") d)) cards of_cards;
+      changes = are_changes.each;
+      few = are_changes.few;
     })))))))))
 
 object_kept : (b : Bool) (d : Data) (s : Script) → (if b then script_of_parts d else Err no_json) ≡ Ok s → KeepsCardRules s
