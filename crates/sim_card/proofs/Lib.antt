@@ -5,3 +5,7 @@ pub mod Walk
 pub mod Refusals
 pub mod Tries
 pub mod Resets
+pub mod Stock
+pub mod Put
+pub mod Worlds
+pub mod Shapes

@@ -6,9 +6,10 @@ use Rattle.apdu.specs.Apdu.{is_refusal, refusal}
 use Rattle.card_model.specs.declared.world.PinState.{PinState}
 use Rattle.card_model.specs.declared.world.Change.{Change}
 use Rattle.card_model.specs.declared.world.CardState.{CardState}
-use Rattle.card_model.specs.Card.{first_armed}
-use Rattle.card_model.specs.Answers.{refuses, with_waiting}
+use Rattle.card_model.specs.Card.{change_command, first_armed}
+use Rattle.card_model.specs.Answers.{refuses, answer, with_waiting}
 use Rattle.card_model.specs.Verify.{wrong_key, with_key}
+use Rattle.card_model.specs.Toolkit.{with_change}
 use Rattle.card_model.specs.Step.{on_card}
 use Rattle.sim_card.specs.Laws.{KeepsRefused, TakesTry, beside_waiting}
 use Rattle.sim_card.proofs.Walk.{no_refusal, card-keeps}
@@ -35,5 +36,6 @@ dropped card true outcome h = h
 dropped card false outcome h = over_waiting card (with_waiting card None) outcome refl h
 
 pub refusal-keeps : (changes : List Change) (card : CardState) (c : CommandValue) → KeepsRefused card (on_card changes card c)
-refusal-keeps changes card c = card-keeps c KeepsRefused refused (λ card new response same h. settles card new response h)
+refusal-keeps changes card c = card-keeps c KeepsRefused refused (λ card new response same alike h. settles card new response h)
+    (λ card change is. settles card (with_change card change) (answer (change_command change) 0x9000) refl)
     (λ changes card place key is here same. settles card _ _ (no_refusal card.awaiting (first_armed changes card))) takes-try dropped changes card

@@ -1,8 +1,7 @@
 -- The tries of a key grow by its own PIN alone.
-use Rattle.std.proofs.Common.{◌≡◌, ◌<◌, ◌-◌, ℕ, suc, zero, Bool, true, false, if◌then◌else◌, List, [], ◌∷◌, Option, Some, None, sym, ap, subst, ◌∙◌, arith}
+use Rattle.std.proofs.Common.{◌≡◌, ◌<◌, ◌-◌, ℕ, suc, zero, Bool, true, false, if◌then◌else◌, List, [], ◌∷◌, Option, Some, None, refl, sym, ap, subst, ◌∙◌, arith}
 use Rattle.std.specs.Prelude.{slice_get, slice_set, unwrap_or, option_map}
 use Rattle.apdu.specs.Values.{CommandValue, ResponseValue}
-use Rattle.apdu.specs.Apdu.{is_refusal}
 use Rattle.apdu.specs.Words.{same_bytes}
 use Rattle.card_model.specs.declared.instruction.Instruction.TheVariants.{Verify}
 use Rattle.card_model.specs.declared.world.PinState.{PinState}
@@ -11,6 +10,7 @@ use Rattle.card_model.specs.declared.world.CardState.{CardState}
 use Rattle.card_model.specs.Instructions.{instruction_of}
 use Rattle.card_model.specs.Answers.{refuses, succeeds, with_waiting}
 use Rattle.card_model.specs.Verify.{right_key, wrong_key, with_key}
+use Rattle.card_model.specs.Toolkit.{with_change}
 use Rattle.card_model.specs.Step.{on_card}
 use Rattle.sim_card.specs.Laws.{tries_of, KeepsTries}
 use Rattle.sim_card.proofs.Walk.{card-keeps}
@@ -35,8 +35,8 @@ module _ (c : CommandValue) where
   refused : (card : CardState) (word : ℕ) → KeepsTries c card (refuses card word).0
   refused card word = record { grown = λ at before after b a less. absurd (same_tries (slice_get card.keys at) before after b a less) }
 
-  settles : (card new : CardState) (response : ResponseValue) → new.keys ≡ card.keys → is_refusal response.sw ≡ false → KeepsTries c card new
-  settles card new response same h = record { grown = λ at before after b a less. absurd (same_tries (slice_get card.keys at) before after b (ap (λ (keys : List PinState). slice_get keys at) (sym same) ∙ a) less) }
+  same_keys : (card new : CardState) → new.keys ≡ card.keys → KeepsTries c card new
+  same_keys card new same = record { grown = λ at before after b a less. absurd (same_tries (slice_get card.keys at) before after b (ap (λ (keys : List PinState). slice_get keys at) (sym same) ∙ a) less) }
 
   key_of : (key before : PinState) → Some key ≡ Some before → key ≡ before
   key_of key before e = ap (λ (o : Option PinState). unwrap_or o key) e
@@ -62,4 +62,4 @@ module _ (c : CommandValue) where
   dropped card false outcome h = record { grown = h.grown }
 
 pub tries-keep : (changes : List Change) (card : CardState) (c : CommandValue) → KeepsTries c card (on_card changes card c).0
-tries-keep changes card c = card-keeps c (λ card outcome. KeepsTries c card outcome.0) (refused c) (settles c) (right c) (wrong c) (dropped c) changes card
+tries-keep changes card c = card-keeps c (λ card outcome. KeepsTries c card outcome.0) (refused c) (λ card new response same alike h. same_keys c card new same) (λ card change is. same_keys c card (with_change card change) refl) (right c) (wrong c) (dropped c) changes card

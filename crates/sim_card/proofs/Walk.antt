@@ -1,8 +1,11 @@
 -- What holds of every refusal, every success and every try of a PIN holds of every command: the rows one by one.
-use Rattle.std.proofs.Common.{◌≡◌, ℕ, ◌+◌, ◌-◌, ◌/◌, ◌%◌, ◌==◌, ◌||◌, ◌&&◌, not, Bool, true, false, nat_lt, nat_le, if◌then◌else◌, List, [], ◌∷◌, length, Option, Some, None, is_some, refl, sym, arith, true≢false}
-use Rattle.std.specs.Prelude.{slice_get}
+use Rattle.std.proofs.Common.{◌≡◌, ℕ, ◌+◌, ◌-◌, ◌/◌, ◌%◌, ◌==◌, ◌||◌, ◌&&◌, not, Bool, true, false, nat_lt, nat_le, if◌then◌else◌, List, [], ◌∷◌, length, Option, Some, None, is_some, refl, sym, ap, ◌∙◌, arith, true≢false}
+use Rattle.std.specs.Prelude.{slice_get, slice_set}
+use Rattle.std.proofs.Math.Seq.{map-set_same}
+use Rattle.std.proofs.lemmas.List.{length-set}
+use Rattle.std.proofs.lemmas.Option.{get_or_from_slice_get}
 use Rattle.apdu.specs.Values.{CommandValue, ResponseValue}
-use Rattle.apdu.specs.Words.{is_empty, is_one_of, same_bytes}
+use Rattle.apdu.specs.Words.{is_empty, is_one_of, same_bytes, written_at}
 use Rattle.apdu.specs.Apdu.{is_success, is_announcement, has_more, wants_more, wants_other_le, is_refusal, refusal, channel_of}
 use Rattle.apdu.specs.declared.class.ClassKind.{ClassKind}
 use Rattle.fcp.specs.Content.{is_transparent, is_linear, first_row}
@@ -16,15 +19,16 @@ use Rattle.card_model.specs.declared.instruction.Instruction.{Instruction}
 use Rattle.card_model.specs.declared.instruction.Instruction.TheVariants.{Select, GetResponse, Status, ReadBinary, UpdateBinary, ReadRecord, UpdateRecord, Verify, ManageChannel, TerminalProfile, Fetch, TerminalResponse}
 use Rattle.card_model.specs.Instructions.{instruction_of, kind_of, is_get_response}
 use Rattle.card_model.specs.Card.{application_id, application_named, channel_place, current_file, current_place, current_parameters, is_selectable, rule_of, is_met, key_place, change_command, first_armed, row_from_one}
-use Rattle.card_model.specs.Answers.{refuses, length_byte, announced_word, answers, succeeds, body_len, parameters, wanted_le, with_waiting}
+use Rattle.card_model.specs.Answers.{refuses, length_byte, announced_word, answer, answers, succeeds, body_len, parameters, wanted_le, with_waiting}
 use Rattle.card_model.specs.Select.{select_row, select_ids, select_found, selection_answer, parameters_answer, selected_ids, is_select_length, with_channel}
 use Rattle.card_model.specs.GetResponse.{get_response_row, get_waiting, fetch_waiting, waits_on, without_waiting, has_waiting_on}
 use Rattle.card_model.specs.Read.{read_binary_row, read_found, read_with_le, read_bytes, read_record_row, read_record_found, read_record_with_le, read_row}
-use Rattle.card_model.specs.Update.{update_binary_row, update_binary_at, update_binary_found, update_binary_unless, binary_refusal, update_record_row, update_record_at, update_record_found, update_record_unless, record_refusal}
+use Rattle.card_model.specs.Update.{with_file_row, update_binary_row, update_binary_at, update_binary_found, update_binary_unless, binary_refusal, update_record_row, update_record_at, update_record_found, update_record_unless, record_refusal}
 use Rattle.card_model.specs.Verify.{verify_row, verify_at, verify_found, right_key, wrong_key, with_key, tries_word}
 use Rattle.card_model.specs.Channels.{manage_channel_row, open_with_le, open_number, free_number, close_channel, close_place}
-use Rattle.card_model.specs.Toolkit.{status_row, terminal_profile_row, fetch_row, fetch_first, fetch_armed, terminal_response_row}
+use Rattle.card_model.specs.Toolkit.{status_row, terminal_profile_row, with_change, fetch_row, fetch_first, fetch_armed, terminal_response_row}
 use Rattle.card_model.specs.Step.{on_card, on_class, on_place, on_channel, on_kind, on_row, same_kind}
+use Rattle.sim_card.specs.Shapes.{shape_of, shapes}
 
 -- ---- status words
 
@@ -54,17 +58,25 @@ no_refusal awaiting None = refl
 no_refusal true (Some change) = refl
 no_refusal false (Some change) = settled (0x9100 + length_byte (length (change_command change)) == 0x9000) _ (wants_more (0x9100 + length_byte (length (change_command change)))) (announces (length (change_command change)))
 
+-- ---- the shape of a file
+
+-- another row of the same file leaves the shape of each
+row-keeps_shapes : (files : List FileState) (place : ℕ) (file : FileState) (i : ℕ) (row : List ℕ) → slice_get files place ≡ Some file → shapes (slice_set files place (with_file_row file i row)) ≡ shapes files
+row-keeps_shapes files place file i row here = map-set_same shape_of files place (with_file_row file i row) file
+    (ap (λ (count : ℕ). record (shape_of file) { count = count }) (length-set file.rows.rows i row) ∙ ap shape_of (sym (get_or_from_slice_get files place file file here)))
+
 module _ (c : CommandValue) (P : CardState → CardState × ResponseValue → Type 0)
     (refused : (card : CardState) (word : ℕ) → P card (refuses card word))
-    (settles : (card new : CardState) (response : ResponseValue) → new.keys ≡ card.keys → is_refusal response.sw ≡ false → P card (new, response))
+    (settles : (card new : CardState) (response : ResponseValue) → new.keys ≡ card.keys → shapes new.files ≡ shapes card.files → is_refusal response.sw ≡ false → P card (new, response))
+    (fetched : (card : CardState) (change : Change) → instruction_of c.ins ≡ Some Fetch → P card (with_change card change, answer (change_command change) 0x9000))
     (right : (changes : List Change) (card : CardState) (place : ℕ) (key : PinState) → instruction_of c.ins ≡ Some Verify → slice_get card.keys place ≡ Some key → same_bytes c.body key.secret ≡ true → P card (succeeds changes (with_key card place (right_key key))))
     (wrong : (card : CardState) (place : ℕ) (key : PinState) (word : ℕ) → slice_get card.keys place ≡ Some key → P card (with_key card place (wrong_key key), refusal word))
     (dropped : (card : CardState) (b : Bool) (outcome : CardState × ResponseValue) → P (if b then card else with_waiting card None) outcome → P card outcome)
   where
     -- ---- the ways to end
 
-    succeeded : (changes : List Change) (card new : CardState) (body : List ℕ) → new.keys ≡ card.keys → P card (answers changes new body)
-    succeeded changes card new body same = settles card new _ same (no_refusal new.awaiting (first_armed changes new))
+    succeeded : (changes : List Change) (card new : CardState) (body : List ℕ) → new.keys ≡ card.keys → shapes new.files ≡ shapes card.files → P card (answers changes new body)
+    succeeded changes card new body same alike = settles card new _ same alike (no_refusal new.awaiting (first_armed changes new))
 
     either : (card : CardState) (b : Bool) (x y : CardState × ResponseValue) → P card x → P card y → P card (if b then x else y)
     either card true x y px py = px
@@ -80,15 +92,15 @@ module _ (c : CommandValue) (P : CardState → CardState × ResponseValue → Ty
 
     -- ---- SELECT
 
-    parameters-keep : (changes : List Change) (old card : CardState) (number : ℕ) (bytes : List ℕ) → card.keys ≡ old.keys → P old (parameters_answer changes card number bytes)
-    parameters-keep changes old card number bytes same = either old card.get_response _ _
-        (settles old (with_waiting card _) (refusal (0x6100 + length_byte (length bytes))) same (more (is_success (0x6100 + length_byte (length bytes))) _ (wants_other_le (0x6100 + length_byte (length bytes))) (asks_more (length bytes))))
-        (succeeded changes old card bytes same)
+    parameters-keep : (changes : List Change) (old card : CardState) (number : ℕ) (bytes : List ℕ) → card.keys ≡ old.keys → shapes card.files ≡ shapes old.files → P old (parameters_answer changes card number bytes)
+    parameters-keep changes old card number bytes same alike = either old card.get_response _ _
+        (settles old (with_waiting card _) (refusal (0x6100 + length_byte (length bytes))) same alike (more (is_success (0x6100 + length_byte (length bytes))) _ (wants_other_le (0x6100 + length_byte (length bytes))) (asks_more (length bytes))))
+        (succeeded changes old card bytes same alike)
 
     selection-keeps : (changes : List Change) (card : CardState) (place : ℕ) (channel : ChannelState) → P card (selection_answer changes card place channel c)
     selection-keeps changes card place channel = either card (c.p2 == 0x0C) _ _
-        (succeeded changes card (with_channel card place channel) [] refl)
-        (parameters-keep changes card (with_channel card place channel) channel.number (current_parameters card channel) refl)
+        (succeeded changes card (with_channel card place channel) [] refl refl)
+        (parameters-keep changes card (with_channel card place channel) channel.number (current_parameters card channel) refl refl)
 
     found-keeps : (changes : List Change) (card : CardState) (place : ℕ) (channel : ChannelState) (app : Option ℕ) → P card (select_found changes card place channel c app)
     found-keeps changes card place channel None = refused card 0x6A82
@@ -108,7 +120,7 @@ module _ (c : CommandValue) (P : CardState → CardState × ResponseValue → Ty
 
     fetched-keeps : (changes : List Change) (card : CardState) (bytes : List ℕ) (le : Option ℕ) → P card (fetch_waiting changes card bytes le)
     fetched-keeps changes card bytes None = refused card 0x6700
-    fetched-keeps changes card bytes (Some le) = check card (not (le == length bytes)) _ _ (succeeded changes card (with_waiting card None) bytes refl)
+    fetched-keeps changes card bytes (Some le) = check card (not (le == length bytes)) _ _ (succeeded changes card (with_waiting card None) bytes refl refl)
 
     waiting-keeps : (changes : List Change) (card : CardState) (channel : ChannelState) (waiting : Option WaitingValue) → P card (get_waiting changes card channel c waiting)
     waiting-keeps changes card channel None = refused card 0x6985
@@ -122,27 +134,27 @@ module _ (c : CommandValue) (P : CardState → CardState × ResponseValue → Ty
 
     status-keeps : (changes : List Change) (card : CardState) → P card (status_row changes card c)
     unfolding status_row
-    status-keeps changes card = check card (not (c.p1 == 0x00) || not (c.p2 == 0x0C)) 0x6A86 _ (check card (not (is_empty c.body)) 0x6700 _ (succeeded changes card card [] refl))
+    status-keeps changes card = check card (not (c.p1 == 0x00) || not (c.p2 == 0x0C)) 0x6A86 _ (check card (not (is_empty c.body)) 0x6700 _ (succeeded changes card card [] refl refl))
 
     profile-keeps : (changes : List Change) (card : CardState) → P card (terminal_profile_row changes card c)
     unfolding terminal_profile_row
-    profile-keeps changes card = check card (not (parameters c == 0)) 0x6A86 _ (check card (is_empty c.body) 0x6700 _ (succeeded changes card card [] refl))
+    profile-keeps changes card = check card (not (parameters c == 0)) 0x6A86 _ (check card (is_empty c.body) 0x6700 _ (succeeded changes card card [] refl refl))
 
-    armed-keeps : (card : CardState) (le : ℕ) (change : Option Change) → P card (fetch_armed card le change)
-    armed-keeps card le None = refused card 0x6985
-    armed-keeps card le (Some change) = check card card.awaiting 0x6985 _ (check card (not (le == length (change_command change))) _ _ (settles card _ _ refl refl))
+    armed-keeps : (card : CardState) (le : ℕ) (change : Option Change) → instruction_of c.ins ≡ Some Fetch → P card (fetch_armed card le change)
+    armed-keeps card le None is = refused card 0x6985
+    armed-keeps card le (Some change) is = check card card.awaiting 0x6985 _ (check card (not (le == length (change_command change))) _ _ (fetched card change is))
 
-    first-keeps : (changes : List Change) (card : CardState) (le : Option ℕ) → P card (fetch_first changes card le)
-    first-keeps changes card None = refused card 0x6700
-    first-keeps changes card (Some le) = armed-keeps card le (first_armed changes card)
+    first-keeps : (changes : List Change) (card : CardState) (le : Option ℕ) → instruction_of c.ins ≡ Some Fetch → P card (fetch_first changes card le)
+    first-keeps changes card None is = refused card 0x6700
+    first-keeps changes card (Some le) is = armed-keeps card le (first_armed changes card) is
 
-    fetch-keeps : (changes : List Change) (card : CardState) → P card (fetch_row changes card c)
+    fetch-keeps : (changes : List Change) (card : CardState) → instruction_of c.ins ≡ Some Fetch → P card (fetch_row changes card c)
     unfolding fetch_row
-    fetch-keeps changes card = check card (not (parameters c == 0)) 0x6A86 _ (first-keeps changes card (wanted_le c))
+    fetch-keeps changes card is = check card (not (parameters c == 0)) 0x6A86 _ (first-keeps changes card (wanted_le c) is)
 
     response-keeps : (changes : List Change) (card : CardState) → P card (terminal_response_row changes card c)
     unfolding terminal_response_row
-    response-keeps changes card = check card (not (parameters c == 0)) 0x6A86 _ (check card (not card.awaiting) 0x6985 _ (check card (is_empty c.body) 0x6700 _ (succeeded changes card (record card { awaiting = false }) [] refl)))
+    response-keeps changes card = check card (not (parameters c == 0)) 0x6A86 _ (check card (not card.awaiting) 0x6985 _ (check card (is_empty c.body) 0x6700 _ (succeeded changes card (record card { awaiting = false }) [] refl refl)))
 
     -- ---- READ BINARY and READ RECORD
 
@@ -150,7 +162,7 @@ module _ (c : CommandValue) (P : CardState → CardState × ResponseValue → Ty
     bytes-keep changes card file at le =
         check card (nat_le (length (first_row file.rows.rows)) at) 0x6B00 _
         (check card file.endless 0x6C01 _
-        (check card (nat_lt (length (first_row file.rows.rows) - at) le) _ _ (succeeded changes card card _ refl)))
+        (check card (nat_lt (length (first_row file.rows.rows) - at) le) _ _ (succeeded changes card card _ refl refl)))
 
     with_le-keeps : (changes : List Change) (card : CardState) (file : FileState) (le : Option ℕ) → P card (read_with_le changes card file c le)
     with_le-keeps changes card file None = refused card 0x6700
@@ -166,7 +178,7 @@ module _ (c : CommandValue) (P : CardState → CardState × ResponseValue → Ty
 
     row-keeps : (changes : List Change) (card : CardState) (file : FileState) (le : ℕ) (row : Option (List ℕ)) → P card (read_row changes card file le row)
     row-keeps changes card file le None = refused card 0x6A83
-    row-keeps changes card file le (Some row) = check card (file.endless || not (le == file.rows.width)) _ _ (succeeded changes card card row refl)
+    row-keeps changes card file le (Some row) = check card (file.endless || not (le == file.rows.width)) _ _ (succeeded changes card card row refl refl)
 
     record_le-keeps : (changes : List Change) (card : CardState) (file : FileState) (le : Option ℕ) → P card (read_record_with_le changes card file c le)
     record_le-keeps changes card file None = refused card 0x6700
@@ -182,33 +194,33 @@ module _ (c : CommandValue) (P : CardState → CardState × ResponseValue → Ty
 
     -- ---- UPDATE BINARY and UPDATE RECORD
 
-    binary_unless-keeps : (changes : List Change) (card : CardState) (place : ℕ) (file : FileState) (word : Option ℕ) → P card (update_binary_unless changes card c place file word)
-    binary_unless-keeps changes card place file (Some word) = refused card word
-    binary_unless-keeps changes card place file None = succeeded changes card _ [] refl
+    binary_unless-keeps : (changes : List Change) (card : CardState) (place : ℕ) (file : FileState) (word : Option ℕ) → slice_get card.files place ≡ Some file → P card (update_binary_unless changes card c place file word)
+    binary_unless-keeps changes card place file (Some word) here = refused card word
+    binary_unless-keeps changes card place file None here = succeeded changes card _ [] refl (row-keeps_shapes card.files place file 0 (written_at (parameters c) c.body (first_row file.rows.rows)) here)
 
-    binary_found-keeps : (changes : List Change) (card : CardState) (place : ℕ) (file : Option FileState) → P card (update_binary_found changes card c place file)
-    binary_found-keeps changes card place None = refused card 0x6986
-    binary_found-keeps changes card place (Some file) = binary_unless-keeps changes card place file (binary_refusal card file c)
+    binary_found-keeps : (changes : List Change) (card : CardState) (place : ℕ) (file : Option FileState) → slice_get card.files place ≡ file → P card (update_binary_found changes card c place file)
+    binary_found-keeps changes card place None here = refused card 0x6986
+    binary_found-keeps changes card place (Some file) here = binary_unless-keeps changes card place file (binary_refusal card file c) here
 
     binary_at-keeps : (changes : List Change) (card : CardState) (place : Option ℕ) → P card (update_binary_at changes card c place)
     binary_at-keeps changes card None = refused card 0x6986
-    binary_at-keeps changes card (Some place) = binary_found-keeps changes card place (slice_get card.files place)
+    binary_at-keeps changes card (Some place) = binary_found-keeps changes card place (slice_get card.files place) refl
 
     update_binary-keeps : (changes : List Change) (card : CardState) (channel : ChannelState) → P card (update_binary_row changes card channel c)
     unfolding update_binary_row
     update_binary-keeps changes card channel = binary_at-keeps changes card (current_place card channel)
 
-    record_unless-keeps : (changes : List Change) (card : CardState) (place : ℕ) (file : FileState) (word : Option ℕ) → P card (update_record_unless changes card c place file word)
-    record_unless-keeps changes card place file (Some word) = refused card word
-    record_unless-keeps changes card place file None = succeeded changes card _ [] refl
+    record_unless-keeps : (changes : List Change) (card : CardState) (place : ℕ) (file : FileState) (word : Option ℕ) → slice_get card.files place ≡ Some file → P card (update_record_unless changes card c place file word)
+    record_unless-keeps changes card place file (Some word) here = refused card word
+    record_unless-keeps changes card place file None here = succeeded changes card _ [] refl (row-keeps_shapes card.files place file (c.p1 - 1) c.body here)
 
-    update_found-keeps : (changes : List Change) (card : CardState) (place : ℕ) (file : Option FileState) → P card (update_record_found changes card c place file)
-    update_found-keeps changes card place None = refused card 0x6986
-    update_found-keeps changes card place (Some file) = record_unless-keeps changes card place file (record_refusal card file c)
+    update_found-keeps : (changes : List Change) (card : CardState) (place : ℕ) (file : Option FileState) → slice_get card.files place ≡ file → P card (update_record_found changes card c place file)
+    update_found-keeps changes card place None here = refused card 0x6986
+    update_found-keeps changes card place (Some file) here = record_unless-keeps changes card place file (record_refusal card file c) here
 
     record_at-keeps : (changes : List Change) (card : CardState) (place : Option ℕ) → P card (update_record_at changes card c place)
     record_at-keeps changes card None = refused card 0x6986
-    record_at-keeps changes card (Some place) = update_found-keeps changes card place (slice_get card.files place)
+    record_at-keeps changes card (Some place) = update_found-keeps changes card place (slice_get card.files place) refl
 
     update_record-keeps : (changes : List Change) (card : CardState) (channel : ChannelState) → P card (update_record_row changes card channel c)
     unfolding update_record_row
@@ -235,7 +247,7 @@ module _ (c : CommandValue) (P : CardState → CardState × ResponseValue → Ty
 
     number-keeps : (changes : List Change) (card : CardState) (number : Option ℕ) → P card (open_number changes card number)
     number-keeps changes card None = refused card 0x6A81
-    number-keeps changes card (Some number) = succeeded changes card _ _ refl
+    number-keeps changes card (Some number) = succeeded changes card _ _ refl refl
 
     open_le-keeps : (changes : List Change) (card : CardState) (le : Option ℕ) → P card (open_with_le changes card le)
     open_le-keeps changes card None = refused card 0x6700
@@ -243,7 +255,7 @@ module _ (c : CommandValue) (P : CardState → CardState × ResponseValue → Ty
 
     place-keeps : (changes : List Change) (card : CardState) (place : Option ℕ) → P card (close_place changes card place)
     place-keeps changes card None = refused card 0x6881
-    place-keeps changes card (Some place) = succeeded changes card _ [] refl
+    place-keeps changes card (Some place) = succeeded changes card _ [] refl refl
 
     close-keeps : (changes : List Change) (card : CardState) → P card (close_channel changes card c)
     close-keeps changes card = check card (c.p2 == 0x00) 0x6A86 _ (check card (not (is_empty c.body) || is_some c.le) 0x6700 _ (place-keeps changes card (channel_place c.p2 card)))
@@ -256,7 +268,7 @@ module _ (c : CommandValue) (P : CardState → CardState × ResponseValue → Ty
 
     -- ---- the table
 
-    row-of-table-keeps : (changes : List Change) (card : CardState) (place : ℕ) (channel : ChannelState) (row : Instruction) → instruction_of c.ins ≡ Some row → P card (on_row changes card place channel c row)
+    pub row-of-table-keeps : (changes : List Change) (card : CardState) (place : ℕ) (channel : ChannelState) (row : Instruction) → instruction_of c.ins ≡ Some row → P card (on_row changes card place channel c row)
     row-of-table-keeps changes card place channel Select is = select-keeps changes card place channel
     row-of-table-keeps changes card place channel GetResponse is = get_response-keeps changes card channel
     row-of-table-keeps changes card place channel Status is = status-keeps changes card
@@ -267,7 +279,7 @@ module _ (c : CommandValue) (P : CardState → CardState × ResponseValue → Ty
     row-of-table-keeps changes card place channel Verify is = verify-keeps changes card is
     row-of-table-keeps changes card place channel ManageChannel is = manage-keeps changes card
     row-of-table-keeps changes card place channel TerminalProfile is = profile-keeps changes card
-    row-of-table-keeps changes card place channel Fetch is = fetch-keeps changes card
+    row-of-table-keeps changes card place channel Fetch is = fetch-keeps changes card is
     row-of-table-keeps changes card place channel TerminalResponse is = response-keeps changes card
 
     kind-keeps : (changes : List Change) (card : CardState) (place : ℕ) (channel : ChannelState) (kind : ClassKind) (row : Option Instruction) → instruction_of c.ins ≡ row → P card (on_kind changes card place channel kind c row)

@@ -1,11 +1,11 @@
 -- What a list of calls does to a simulated slot: each call of an exchange or a reset is counted, and fails exactly where
 -- a fault is planned for it or the slot is empty.
-use Rattle.std.specs.Prelude.{Bool, List, [], ◌∷◌, Option, None, Some, IsTrue, if◌then◌else◌}
+use Rattle.std.specs.Prelude.{Bool, List, [], ◌∷◌, Option, None, Some, if◌then◌else◌}
 use Rattle.apdu.specs.Values.{CommandValue}
 use Rattle.card_model.specs.declared.world.World.{World}
 use Rattle.card_model.specs.declared.world.WorldEvent.{WorldEvent}
 use Rattle.card_model.specs.declared.slot.WorldRefusal.{WorldRefusal}
-use Rattle.card_model.specs.Step.{is_served, step, after_event, after_reset}
+use Rattle.card_model.specs.Step.{step, after_event, after_reset}
 use Rattle.card_model.specs.Slot.{one_more, next_fault, acted_of, fails_at, refusal_of}
 use Rattle.sim_card.specs.Sim.{SimValue}
 use Rattle.sim_card.specs.declared.calls.Call.{Call}
@@ -54,12 +54,6 @@ abbrev pub after_world_call : SimValue → WorldEvent → SimValue
 after_world_call s e = record s { world = world_unless_refused s.world e (refusal_of s.world e) }
 
 -- ---- calls
-
--- the command of an exchange is one that the table has so far
-abbrev pub IsServedCall : Call → Type 0
-IsServedCall (Exchange c) = IsTrue (is_served c)
-IsServedCall Reset = Unit
-IsServedCall (Happening e) = Unit
 
 abbrev pub after_call : SimValue → Call → SimValue
 after_call s (Exchange c) = after_exchange s c

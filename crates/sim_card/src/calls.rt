@@ -1,6 +1,6 @@
 // Lists of calls on a simulated slot.
-ghost use Rattle.std.specs.Prelude.{◌≡◌, All};
-ghost use Rattle.sim_card.specs.Calls.{IsServedCall, after_call, after_calls};
+ghost use Rattle.std.specs.Prelude.{◌≡◌};
+ghost use Rattle.sim_card.specs.Calls.{after_call, after_calls};
 
 use crate::slot::SimSlot;
 use apdu::Command;
@@ -19,7 +19,6 @@ pub enum Call {
 
 // Makes one call, and leaves its answer aside.
 fn play_one(slot: &mut SimSlot, call: &Call)
-    requires { IsServedCall call.now }
     ensures { slot.new ≡ after_call slot.old call.now }
 {
     match call {
@@ -37,7 +36,6 @@ fn play_one(slot: &mut SimSlot, call: &Call)
 
 /// Makes the calls in order, and leaves their answers aside.
 pub fn play(slot: &mut SimSlot, calls: &[Call])
-    requires { All IsServedCall calls.now }
     ensures { slot.new ≡ after_calls slot.old calls.now }
 {
     for call in calls {

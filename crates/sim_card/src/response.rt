@@ -60,21 +60,22 @@ fn announced_word(awaiting: bool, change: Option<&Change>) -> u16
             if awaiting {
                 0x9000
             } else {
-                0x9100 + change_len(change) % 256
+                0x9100 + (change_command(change).len() % 256) as u16
             }
         }
     }
 }
 
-// The length of the proactive command that announces a change.
-fn change_len(change: &Change) -> u16
+/// The proactive command that announces a change.
+pub fn change_command(change: &Change) -> ArrayVec<u8, 128>
     requires { IsFittingChange change.now }
-    ensures { result ≡ length (model.change_command change.now) }
+    ensures { result.items ≡ model.change_command change.now }
 {
-    write_proactive(1, change.kind, change.qualifier, change.list.as_slice()).len() as u16
+    write_proactive(1, change.kind, change.qualifier, change.list.as_slice())
 }
 
-fn first_armed<'a>(changes: &'a Changes, card: &CardState) -> Option<&'a Change>
+/// The change that the card announces, where one is armed.
+pub fn first_armed<'a>(changes: &'a Changes, card: &CardState) -> Option<&'a Change>
     requires { All IsFittingChange changes.now }
     ensures value { option_copied result ≡ model.first_armed changes.now card.now }
     ensures fits { IfSome result (λ c. IsFittingChange c.now) }

@@ -1,12 +1,13 @@
 // The slot of a simulated card.
-ghost use Rattle.std.specs.Prelude.{◌≡◌, Some, All, IsTrue, IsOk, IfOk, OnOk, OnErr};
+ghost use Rattle.std.specs.Prelude.{◌≡◌, Some, All, IfOk, OnOk, OnErr};
 ghost use Rattle.std.specs.Option.{option_copied};
 ghost use Rattle.apdu.specs.Stream.{HasCause};
-ghost use Rattle.card_model.specs.Step as table;
 ghost use Rattle.card_model.specs.Slot as slots;
-ghost use Rattle.card_model.specs.Limits.{IsFittingCard, IsFittingChange, IsFittingWorld};
+ghost use Rattle.card_model.specs.Limits.{IsFittingCard, IsFittingChange, IsFittingWorld, HasRoom};
+ghost use Rattle.sim_card.specs.Spares.{IsStockedWorld};
 
 use crate::event::apply_event;
+use crate::spares::{Spares, spares_of};
 use crate::step::{holds_card, reset, step};
 use apdu::{Command, Memory, Response};
 use card_model::{
@@ -20,6 +21,7 @@ use std::marker::Model;
 #[derive(Drop)]
 pub struct SimSlot {
     state: World,
+    spares: Spares,
     faults: Faults,
     calls: u64,
     failures: u64,
@@ -31,16 +33,18 @@ impl Model for SimSlot {
     ghost Value = { SimValue };
 
     ghost use Rattle.card_model.specs.Limits.{IsFittingWorld};
+    ghost use Rattle.sim_card.specs.Spares.{IsStockedWorld};
 
     ghost view = { λ s. record { world = s.state; plan = record { faults = s.faults; calls = s.calls }; failures = s.failures } };
 
-    ghost invariant = { λ s. IsFittingWorld s.state };
+    ghost invariant = { λ s. IsFittingWorld s.state × IsStockedWorld s.state s.spares };
 }
 
 impl SimSlot {
     ghost use Rattle.sim_card.specs.Sim.{empty_slot};
 
-    /// An empty slot with these cards and changes, and the calls that are to fail.
+    /// An empty slot with these cards and changes, and the calls that are to fail. For each card it makes the room of
+    /// every content that a change gives it; the calls of the slot take no memory.
     pub fn new(
         alloc: Global,
         images: Images,
@@ -49,16 +53,17 @@ impl SimSlot {
     ) -> Result<SimSlot, Memory>
         requires cards { All IsFittingCard images }
         requires changes { All IsFittingChange changes }
-        ensures ok { IsOk result }
+        requires room { All (HasRoom changes) images }
         ensures value { IfOk result (λ s. s ≡ empty_slot images changes faults) }
     {
-        let _ = alloc;
+        let spares = spares_of(alloc, images.as_slice(), &changes)?;
         Ok(SimSlot {
             state: World {
                 cards: images,
                 inside: None,
                 changes,
             },
+            spares,
             faults,
             calls: 0,
             failures: 0,
@@ -83,12 +88,14 @@ fn fault_at(call: u64, faults: &Faults) -> Option<&Fault>
 // An exchange with the fault that is planned for it, if any.
 fn exchange_with(
     world: &mut World,
+    spares: &mut Spares,
     fault: Option<Fault>,
     command: &Command,
 ) -> Result<Response, SlotFault>
     requires world { IsFittingWorld world.old }
-    requires served { IsTrue (table.is_served command.now) }
+    requires stocked { IsStockedWorld world.old spares.old }
     ensures fits { IsFittingWorld world.new }
+    ensures stocked { IsStockedWorld world.new spares.new }
     ensures ok { IfOk result (slots.AnswersAt world.old (Some world.new) command.now) }
     ensures err { OnErr result (slots.MayHaveActed (Some world.old) (Some world.new) command.now) }
     ensures planned { slots.PlannedExchange fault world.old (Some world.new) command.now result }
@@ -96,7 +103,7 @@ fn exchange_with(
     match fault {
         Some(fault) => {
             if fault.acted {
-                let _ = step(world, command);
+                let _ = step(world, spares, command);
             }
             Err(SlotFault)
         }
@@ -104,7 +111,7 @@ fn exchange_with(
             if !holds_card(world) {
                 return Err(SlotFault);
             }
-            Ok(step(world, command))
+            Ok(step(world, spares, command))
         }
     }
 }
@@ -133,7 +140,6 @@ impl Slot for SimSlot {
     ghost faults = { λ s. s.failures };
 
     fn exchange(&mut self, command: &Command) -> Result<Response, SlotFault>
-        requires { IsTrue (table.is_served command.now) }
         ensures ok { IfOk result (slots.Answers (Some self.old.world) (Some self.new.world) command.now) }
         ensures err { OnErr result (slots.MayHaveActed (Some self.old.world) (Some self.new.world) command.now) }
         ensures counts { slots.Counts (Some self.old.plan) (Some self.new.plan) }
@@ -143,13 +149,14 @@ impl Slot for SimSlot {
     {
         self.calls = self.calls.saturating_add(1);
         let fault = fault_at(self.calls, &self.faults).copied();
-        let result = exchange_with(&mut self.state, fault, command);
+        let result = exchange_with(&mut self.state, &mut self.spares, fault, command);
         if result.is_err() {
             self.failures = self.failures.saturating_add(1);
         }
         result
     }
 
+    #[tactic(auto, using(crate::proofs::Worlds::stocked_reset))]
     fn reset(&mut self) -> Result<(), SlotFault>
         ensures ok { OnOk result (slots.Resets (Some self.old.world) (Some self.new.world)) }
         ensures err { OnErr result (slots.MayHaveReset (Some self.old.world) (Some self.new.world)) }
@@ -169,6 +176,7 @@ impl Slot for SimSlot {
 }
 
 impl ScriptedSlot for SimSlot {
+    #[tactic(auto, using(crate::proofs::Worlds::stocked_event))]
     fn world(&mut self, event: &WorldEvent) -> Result<(), WorldRefusal> {
         apply_event(&mut self.state, event)
     }

@@ -1,11 +1,13 @@
 // A command in the world, and the reset of the card in the slot.
-ghost use Rattle.std.specs.Prelude.{◌≡◌, slice_get, is_some, map, IsTrue};
+ghost use Rattle.std.specs.Prelude.{◌≡◌, slice_get, is_some, map};
 ghost use Rattle.card_model.specs.Step as table;
 ghost use Rattle.card_model.specs.Limits.{IsFittingCard, IsFittingWorld};
+ghost use Rattle.sim_card.specs.Spares.{IsStockedWorld};
 
 use crate::card::on_card;
 use crate::channel::fresh_channel;
 use crate::response::refused;
+use crate::spares::Spares;
 use apdu::{Command, Response};
 use card_model::{CardState, KeyList, World};
 
@@ -19,28 +21,37 @@ pub fn holds_card(world: &World) -> bool
     }
 }
 
-fn step_of_card(world: &mut World, place: u8, command: &Command) -> Response
+#[tactic(auto, using(crate::proofs::Worlds::spares_count, crate::proofs::Worlds::stocked_with))]
+fn step_of_card(world: &mut World, spares: &mut Spares, place: u8, command: &Command) -> Response
     requires world { IsFittingWorld world.old }
-    requires served { IsTrue (table.is_served command.now) }
+    requires stocked { IsStockedWorld world.old spares.old }
     ensures fits { IsFittingWorld world.new }
+    ensures stocked { IsStockedWorld world.new spares.new }
     ensures value { (world.new, result) ≡ table.step_of_card world.old place (slice_get world.old.cards place) command.now }
 {
     if place as usize >= world.cards.len() {
         return refused(0);
     }
-    on_card(&world.changes, world.cards.at_mut(place as usize), command)
+    let place = place as usize;
+    on_card(
+        &world.changes,
+        world.cards.at_mut(place),
+        spares.at_mut(place),
+        command,
+    )
 }
 
 /// The command's step; on an empty slot the world stays, and the response says nothing.
 #[tactic(auto, unfolding(card_model::specs::Step::step))]
-pub fn step(world: &mut World, command: &Command) -> Response
+pub fn step(world: &mut World, spares: &mut Spares, command: &Command) -> Response
     requires world { IsFittingWorld world.old }
-    requires served { IsTrue (table.is_served command.now) }
+    requires stocked { IsStockedWorld world.old spares.old }
     ensures fits { IsFittingWorld world.new }
+    ensures stocked { IsStockedWorld world.new spares.new }
     ensures value { (world.new, result) ≡ table.step world.old command.now }
 {
     match world.inside {
-        Some(place) => step_of_card(world, place, command),
+        Some(place) => step_of_card(world, spares, place, command),
         None => refused(0),
     }
 }

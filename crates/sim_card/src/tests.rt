@@ -1,17 +1,18 @@
 // Exchanges with a card of a few files, byte for byte.
-ghost use Rattle.std.specs.Prelude.{◌≡◌, ◌<◌, ◌^◌, length, IsTrue, IfOk};
+ghost use Rattle.std.specs.Prelude.{◌≡◌, ◌<◌, ◌^◌, length, All, IfOk, IfSome};
 ghost use Rattle.apdu.specs.Values.{HasLe};
-ghost use Rattle.card_model.specs.Step.{is_served};
-ghost use Rattle.card_model.specs.Limits.{HasFittingParameters, IsFittingCard, IsFittingChange};
+ghost use Rattle.card_model.specs.Limits as limits;
+ghost use Rattle.card_model.specs.Limits.{HasFittingParameters, HasRoom, IsFittingCard, IsFittingChange};
 
+mod fetch;
 mod rows;
 
 use crate::{Call, SimSlot, play};
 use apdu::{Bytes, Command, Path, Sequence};
 use arrayvec::ArrayVec;
 use card_model::{
-    ArmedList, CardState, Change, ChannelList, Fault, FileState, PinState, ScriptedSlot, Slot,
-    WorldEvent, WorldRefusal,
+    ArmedList, CardFiles, CardState, Change, Changes, ChannelList, Fault, FileState, Images,
+    PinState, ScriptedSlot, Slot, WorldEvent, WorldRefusal,
 };
 use fcp::{ArrRef, Rows};
 use std::alloc::Global;
@@ -46,7 +47,7 @@ fn file(alloc: Global, ids: &[u16], bytes: &[u8]) -> Result<FileState, Fail>
 fn card(alloc: Global) -> Result<CardState, Fail>
     ensures { IfOk result IsFittingCard }
 {
-    let mut files = Sequence::new(alloc);
+    let mut files = CardFiles::new(alloc)?;
     files.push(file(alloc, &[0x2FE2], &ICCID)?)?;
     let mut keys = Sequence::new(alloc);
     keys.push(PinState {
@@ -94,20 +95,61 @@ fn change(alloc: Global) -> Result<Change, Fail>
     })
 }
 
-fn slot_of(alloc: Global, card: CardState, faults: &[Fault]) -> Result<SimSlot, Fail>
-    requires { IsFittingCard card }
+// How many files the changes have, where there are at most two.
+fn count_files(changes: &[Change]) -> Option<usize>
+    ensures { IfSome result (λ count. count ≡ limits.count_files changes.now) }
+{
+    match changes {
+        [] => Some(0),
+        [only] => Some(only.files.len()),
+        [first, second] => first.files.len().checked_add(second.files.len()),
+        _ => None,
+    }
+}
+
+// Puts a card at the end, where it has room for the files of the changes.
+fn add_card(images: &mut Images, changes: &Changes, card: CardState) -> Result<(), Fail>
+    requires card { IsFittingCard card }
+    requires cards { All IsFittingCard images.old }
+    requires room { All (HasRoom changes.now) images.old }
+    ensures cards { All IsFittingCard images.new }
+    ensures room { All (HasRoom changes.now) images.new }
+{
+    let given = count_files(changes.as_slice()).ok_or("two changes at most")?;
+    let own = card.files.len();
+    if own > 4160 || given > 4160 - own {
+        return Err(Fail::from("room for the files"));
+    }
+    images.push(card)?;
+    Ok(())
+}
+
+// A slot of one card.
+fn slot_with(
+    alloc: Global,
+    card: CardState,
+    changes: Changes,
+    faults: &[Fault],
+) -> Result<SimSlot, Fail>
+    requires card { IsFittingCard card }
+    requires changes { All IsFittingChange changes }
 {
     let mut images = Sequence::new(alloc);
-    images.push(card)?;
-    let mut changes = Sequence::new(alloc);
-    changes.push(change(alloc)?)?;
+    add_card(&mut images, &changes, card)?;
     let faults = Sequence::from_vec(faults.to_vec(alloc)?);
     Ok(SimSlot::new(alloc, images, changes, faults)?)
 }
 
+fn slot_of(alloc: Global, card: CardState, faults: &[Fault]) -> Result<SimSlot, Fail>
+    requires { IsFittingCard card }
+{
+    let mut changes = Sequence::new(alloc);
+    changes.push(change(alloc)?)?;
+    slot_with(alloc, card, changes, faults)
+}
+
 fn command(class: u8, ins: u8, p1: u8, p2: u8, body: &[u8], le: Option<u16>) -> Command
     requires { HasLe le }
-    ensures { result.ins ≡ ins }
 {
     let mut bytes = ArrayVec::new();
     let _ = bytes.try_extend_from_slice(body);
@@ -121,15 +163,11 @@ fn command(class: u8, ins: u8, p1: u8, p2: u8, body: &[u8], le: Option<u16>) -> 
     }
 }
 
-fn select(p1: u8, p2: u8, body: &[u8]) -> Command
-    ensures { IsTrue (is_served result) }
-{
+fn select(p1: u8, p2: u8, body: &[u8]) -> Command {
     command(0x00, 0xA4, p1, p2, body, None)
 }
 
-fn read(at: u8, le: u8) -> Command
-    ensures { IsTrue (is_served result) }
-{
+fn read(at: u8, le: u8) -> Command {
     command(
         0x00,
         0xB0,
@@ -140,15 +178,11 @@ fn read(at: u8, le: u8) -> Command
     )
 }
 
-fn profile() -> Command
-    ensures { IsTrue (is_served result) }
-{
+fn profile() -> Command {
     command(0x80, 0x10, 0x00, 0x00, &[0x01, 0x00, 0x80], None)
 }
 
-fn answers(rt: &impl Abort, slot: &mut SimSlot, command: &Command, expected: &[u8])
-    requires { IsTrue (is_served command.now) }
-{
+fn answers(rt: &impl Abort, slot: &mut SimSlot, command: &Command, expected: &[u8]) {
     let response = slot.exchange(command).expect(rt, "a response");
     assert_eq!(rt; response.write().as_slice(), expected);
 }

@@ -1,5 +1,6 @@
 // UPDATE BINARY and UPDATE RECORD, ETSI TS 102 221 clauses 11.1.4 and 11.1.6.
 ghost use Rattle.std.specs.Prelude.{◌≡◌, ◌≤◌, ◌<◌, ◌+◌, length, slice_get, All, IsTrue, IfSome, IfNone, Some, None};
+ghost use Rattle.apdu.specs.Words.{written_at};
 ghost use Rattle.fcp.specs.Content.{first_row as row_of_bytes, is_transparent, is_linear};
 ghost use Rattle.card_model.specs.Update as table;
 ghost use Rattle.sim_card.specs.Writes.{TakesBytes, TakesRecord};
@@ -11,7 +12,6 @@ use crate::command::parameters;
 use crate::file::first_row;
 use crate::response::{refused, success};
 use apdu::{Command, Response};
-use arrayvec::ArrayVec;
 use card_model::{CardState, Changes, ChannelState, FileState};
 use fcp::FileKind;
 
@@ -21,15 +21,10 @@ fn write_bytes(file: &mut FileState, at: usize, body: &[u8])
     requires within { at + length body.now ≤ length (row_of_bytes file.old.rows.rows) }
     requires fits { HasFittingParameters file.old }
     ensures fits { HasFittingParameters file.new }
-    ensures value { file.new ≡ table.with_file_row file.old 0 (table.written_at at body.now (row_of_bytes file.old.rows.rows)) }
+    ensures value { file.new ≡ table.with_file_row file.old 0 (written_at at body.now (row_of_bytes file.old.rows.rows)) }
 {
     let _count = file.rows.count();
-    let mut bytes: ArrayVec<u8, 65535> = ArrayVec::new();
-    let old = first_row(file);
-    let _ = bytes.try_extend_from_slice(&old[..at]);
-    let _ = bytes.try_extend_from_slice(body);
-    let _ = bytes.try_extend_from_slice(&old[at + body.len()..]);
-    file.rows.set(0, bytes.as_slice());
+    file.rows.write_at(0, at, body);
 }
 
 // Writes over a record.

@@ -1,7 +1,7 @@
 // The run of a script: turns of the framework and of the one actor, over a simulated card.
-ghost use Rattle.std.specs.Prelude.{◌≡◌, ◌≤◌, ◌<◌, ◌+◌, ◌-◌, ◌∷◌, [], true, false, length, is_some, IfOk, OnOk, IsTrue, Some, None};
+ghost use Rattle.std.specs.Prelude.{◌≡◌, ◌≤◌, ◌<◌, ◌+◌, ◌-◌, ◌∷◌, [], true, false, length, is_some, IfOk, OnOk, Some, None};
 ghost use Rattle.apdu.specs.Values.{HasLe};
-ghost use Rattle.card_model.specs.Step.{card_inside, is_served};
+ghost use Rattle.card_model.specs.Step.{card_inside};
 ghost use Rattle.sim_card.specs.Sim.{empty_slot};
 ghost use Rattle.uicc_replay.specs.First.{FitsFile};
 ghost use Rattle.uicc_replay.specs.History.{card_of};
@@ -15,7 +15,7 @@ use crate::text::records_content;
 use apdu::{Bytes, Command, Memory, Path, Response, Sequence};
 use arrayvec::ArrayVec;
 use card_model::{
-    ArmedList, CardState, ChannelList, ChannelState, FileState, Images, ScriptedSlot, Slot,
+    ArmedList, CardFiles, CardState, ChannelList, ChannelState, FileState, Images, ScriptedSlot, Slot,
     WorldEvent,
 };
 use fcp::{Rows, read_fcp};
@@ -74,7 +74,6 @@ fn ask(
     actor: u8,
     command: Command,
 ) -> Result<Response, Memory>
-    requires served { IsTrue (is_served command) }
     requires card { is_some (card_inside slot.old.world) ≡ true }
     requires faults { slot.old.plan.faults ≡ [] }
     ensures { IfOk result (Asks slot.old slot.new lines.old lines.new actor command) }
@@ -342,7 +341,7 @@ fn images_of(alloc: Global, iccid_file: &[u8]) -> Result<Images, Memory>
     let Some(path) = Path::from_ids(&[0x2FE2]) else {
         unreachable!()
     };
-    let mut files = Sequence::new(alloc);
+    let mut files = CardFiles::new(alloc)?;
     files.push(FileState {
         path,
         rows: Rows::transparent(alloc, iccid_file)?,

@@ -1,28 +1,18 @@
 // The rows of the card's table, word by word.
-ghost use Rattle.std.specs.Prelude.{◌≡◌, ◌≤◌, ◌<◌, IfOk};
+ghost use Rattle.std.specs.Prelude.{◌≤◌, ◌<◌, IfOk};
 ghost use Rattle.card_model.specs.Limits.{HasFittingParameters, IsFittingCard};
-ghost use Rattle.card_model.specs.Step.{is_served};
 
 use super::{add, card, file, slot_of};
 use crate::SimSlot;
 use apdu::{Command, Path};
-use card_model::{CardState, FileState, Instruction, PinState, ScriptedSlot, Slot, WorldEvent};
+use card_model::{CardState, FileState, PinState, ScriptedSlot, Slot, WorldEvent};
 use fcp::{ArrRef, Rows};
 use std::alloc::Global;
 use std::process::Abort;
 use std::test::Fail;
 
-fn is_served_command(command: &Command) -> bool
-    ensures { result ≡ is_served command.now }
-{
-    match Instruction::from_byte(command.ins) {
-        Some(row) => row != Instruction::Fetch,
-        None => true,
-    }
-}
-
 // Sends the commands of the lines in order, each with the response behind it that it must have.
-fn converses(
+pub fn converses(
     rt: &impl Abort,
     alloc: Global,
     slot: &mut SimSlot,
@@ -35,7 +25,7 @@ fn converses(
     Ok(())
 }
 
-fn answers_line(
+pub fn answers_line(
     rt: &impl Abort,
     alloc: Global,
     slot: &mut SimSlot,
@@ -44,9 +34,6 @@ fn answers_line(
 ) -> Result<(), Fail> {
     let bytes = hex::decode(alloc, text)?;
     let command = Command::read(bytes.as_slice()).or(Err("a command"))?;
-    if !is_served_command(&command) {
-        return Err(Fail::from("a command that is served"));
-    }
     let response = slot.exchange(&command).or(Err("a response"))?;
     let written = hex::encode_upper(alloc, response.write().as_slice())?;
     assert_eq!(rt; written.as_str(), expected, "at {text}");
@@ -54,7 +41,7 @@ fn answers_line(
 }
 
 // A linear file of two records.
-fn linear(alloc: Global, id: u16, width: u16, records: (&str, &str)) -> Result<FileState, Fail>
+pub fn linear(alloc: Global, id: u16, width: u16, records: (&str, &str)) -> Result<FileState, Fail>
     requires { width ≤ 255 }
     ensures { IfOk result HasFittingParameters }
 {
@@ -81,23 +68,23 @@ const BY_KEY: &str = "800103A406830101950108";
 
 const READ_ALONE: &str = "80010190008001029700FF";
 
-const FIVE: [u8; 5] = [0x01, 0x02, 0x03, 0x04, 0x05];
+pub const FIVE: [u8; 5] = [0x01, 0x02, 0x03, 0x04, 0x05];
 
 // What is special of a file: the record of EF_ARR that it names, and its flags.
 #[derive(Clone, Copy)]
-struct Marks {
-    rule: Option<u8>,
-    active: bool,
-    endless: bool,
+pub struct Marks {
+    pub rule: Option<u8>,
+    pub active: bool,
+    pub endless: bool,
 }
 
-const PLAIN: Marks = Marks {
+pub const PLAIN: Marks = Marks {
     rule: None,
     active: true,
     endless: false,
 };
 
-fn marked(file: FileState, marks: Marks) -> FileState
+pub fn marked(file: FileState, marks: Marks) -> FileState
     requires { HasFittingParameters file }
     ensures { HasFittingParameters result }
 {
@@ -117,7 +104,7 @@ fn marked(file: FileState, marks: Marks) -> FileState
 }
 
 // Adds a transparent file of the even id, and a linear one of the next.
-fn add_two(alloc: Global, card: &mut CardState, id: u16, marks: Marks) -> Result<(), Fail>
+pub fn add_two(alloc: Global, card: &mut CardState, id: u16, marks: Marks) -> Result<(), Fail>
     requires card { IsFittingCard card.old }
     requires id { id < 65535 }
     ensures { IsFittingCard card.new }
@@ -215,6 +202,7 @@ fn every_command_row(rt: HostRuntime) -> Result<(), Fail> {
         80A4000C023F00 6E00
         00F2000C 6E00
         00100000 6E00
+        0012000014 6E00
         00140000 6E00
         80B0000001 6E00",
     )
@@ -480,18 +468,16 @@ fn manage_channel_row(rt: HostRuntime) -> Result<(), Fail> {
     )
 }
 
-// TERMINAL PROFILE and TERMINAL RESPONSE.
+// TERMINAL PROFILE.
 #[test]
-fn toolkit_row(rt: HostRuntime) -> Result<(), Fail> {
+fn terminal_profile_row(rt: HostRuntime) -> Result<(), Fail> {
     table(
         &rt,
         rt.alloc(),
         "8010010001AA 6A86
         8010000101AA 6A86
         80100000 6700
-        8010000003010080 9000
-        8014010001AA 6A86
-        8014000001AA 6985",
+        8010000003010080 9000",
     )
 }
 

@@ -1,0 +1,237 @@
+// Spare files beside a card: what a FETCH gives it is written into files that were made before, so that it takes no memory.
+ghost use Rattle.std.specs.Prelude.{◌≡◌, ◌≤◌, ◌<◌, ◌+◌, ◌∷◌, ◌++◌, [], true, None, Some, length, map, slice_get, slice_set, option_map, All, IfOk, IfSome, OnOk, IsTrue, List};
+ghost use Rattle.std.specs.List.{list_any, position};
+ghost use Rattle.apdu.specs.Words.{same_number as is_same_number};
+ghost use Rattle.card_model.specs.declared.world.FileState.{FileState};
+ghost use Rattle.card_model.specs.Card.{file_place as place_in};
+ghost use Rattle.card_model.specs.Toolkit.{with_file, with_files};
+ghost use Rattle.sim_card.specs.Shapes.{shape_of, shapes};
+ghost use Rattle.sim_card.specs.Spares as stock;
+ghost use Rattle.sim_card.specs.Spares.{same_shape, IsReadyFor, StaysReady};
+
+use crate::file::file_place;
+use apdu::{Bytes, Memory, Sequence};
+use card_model::{CardState, Change, Changes, FileList, FileState};
+use fcp::FileKind;
+use std::alloc::Global;
+use std::mem::swap;
+
+/// The spare files of each card, card by card.
+pub type Spares = Sequence<FileList>;
+
+fn same_number(a: Option<usize>, b: Option<usize>) -> bool
+    ensures { result ≡ is_same_number a b }
+{
+    match (a, b) {
+        (None, None) => true,
+        (Some(a), Some(b)) => a == b,
+        _ => false,
+    }
+}
+
+fn same_kind(a: FileKind, b: FileKind) -> bool
+    ensures { result ≡ stock.same_kind a b }
+{
+    match a {
+        FileKind::Transparent => b == FileKind::Transparent,
+        FileKind::Linear => b == FileKind::Linear,
+        FileKind::Directory => b == FileKind::Directory,
+    }
+}
+
+fn template_len(file: &FileState) -> Option<usize>
+    ensures { result ≡ option_map length file.now.fcp }
+{
+    match &file.fcp {
+        Some(bytes) => Some(bytes.as_slice().len()),
+        None => None,
+    }
+}
+
+/// Whether the file can be written over by the new one.
+fn has_shape(file: &FileState, new: &FileState) -> bool
+    ensures { result ≡ stock.fits new.now file.now }
+{
+    file.path.equals(&new.path)
+        && same_kind(new.rows.kind(), file.rows.kind())
+        && new.rows.width() == file.rows.width()
+        && new.rows.count() == file.rows.count()
+        && same_number(template_len(new), template_len(file))
+}
+
+/// Writes over a file, which takes no memory.
+#[tactic(auto, using(crate::proofs::Stock::same_parts))]
+fn write_file(file: &mut FileState, new: &FileState)
+    requires { stock.fits new.now file.old ≡ true }
+    ensures { file.new ≡ new.now }
+{
+    file.rows.copy_from(&new.rows);
+    file.active = new.active;
+    file.arr = new.arr;
+    file.endless = new.endless;
+    if let (Some(bytes), Some(from)) = (&mut file.fcp, &new.fcp) {
+        bytes.copy_from_slice(from.as_slice());
+    }
+}
+
+fn first_spare(spares: &FileList, new: &FileState) -> Option<usize>
+    ensures value { result ≡ position (stock.fits new.now) spares.now }
+    ensures within { IfSome result (λ place. place < length spares.now) }
+{
+    spares
+        .as_slice()
+        .iter()
+        .position(|spare| has_shape(spare, new))
+}
+
+/// Where the first spare of the new file's shape stands.
+#[tactic(auto, using(crate::proofs::Stock::no_spare, crate::proofs::Stock::spare_fits))]
+fn spare_place(spares: &FileList, new: &FileState) -> usize
+    requires { list_any (stock.fits new.now) spares.now ≡ true }
+    ensures within { result < length spares.now }
+    ensures shape { IfSome (slice_get spares.now result) (λ spare. stock.fits new.now spare ≡ true) }
+{
+    match first_spare(spares, new) {
+        Some(place) => place,
+        None => unreachable!(),
+    }
+}
+
+/// The file at this place becomes one of the new file's shape, where it is none: it changes places with a spare.
+fn make_fit(card: &mut CardState, place: usize, spares: &mut FileList, new: &FileState)
+    requires place { place_in new.now.path card.old ≡ Some place }
+    requires ready { IsReadyFor card.old.files spares.old new.now }
+    ensures shape { IfSome (slice_get card.new.files place) (λ file. stock.fits new.now file ≡ true) }
+    ensures within { place < length card.new.files }
+    ensures others { IfSome (slice_get card.new.files place) (λ file. card.new ≡ record card.old { files = slice_set card.old.files place file }) }
+    ensures count { length spares.new ≡ length spares.old }
+    ensures ready { StaysReady card.old.files spares.old card.new.files spares.new }
+{
+    if !has_shape(&card.files.as_slice()[place], new) {
+        let spare = spare_place(spares, new);
+        swap(card.files.at_mut(place), spares.at_mut(spare));
+    }
+}
+
+/// The new file replaces the one at this place, which has its path.
+fn replace_file(card: &mut CardState, place: usize, spares: &mut FileList, new: &FileState)
+    requires place { place_in new.now.path card.old ≡ Some place }
+    requires ready { IsReadyFor card.old.files spares.old new.now }
+    ensures value { card.new ≡ record card.old { files = slice_set card.old.files place new.now } }
+    ensures count { length spares.new ≡ length spares.old }
+    ensures ready { StaysReady card.old.files spares.old card.new.files spares.new }
+{
+    make_fit(card, place, spares, new);
+    write_file(card.files.at_mut(place), new);
+}
+
+/// The new file goes last.
+fn add_file(card: &mut CardState, spares: &mut FileList, new: &FileState)
+    requires missing { place_in new.now.path card.old ≡ None }
+    requires ready { IsReadyFor card.old.files spares.old new.now }
+    requires room { length card.old.files + length spares.old ≤ 4160 }
+    ensures value { card.new ≡ record card.old { files = card.old.files ++ new.now ∷ [] } }
+    ensures count { length spares.new + 1 ≡ length spares.old }
+    ensures ready { StaysReady card.old.files spares.old card.new.files spares.new }
+{
+    let spare = spare_place(spares, new);
+    let mut file = spares.remove(spare);
+    write_file(&mut file, new);
+    let _ = card.files.push(file);
+}
+
+/// The new file replaces the one of its path; a new path goes last.
+fn put_file(card: &mut CardState, spares: &mut FileList, new: &FileState)
+    requires ready { IsReadyFor card.old.files spares.old new.now }
+    requires room { length card.old.files + length spares.old ≤ 4160 }
+    ensures value { card.new ≡ record card.old { files = with_file card.old.files new.now } }
+    ensures room { length card.new.files + length spares.new ≡ length card.old.files + length spares.old }
+    ensures ready { StaysReady card.old.files spares.old card.new.files spares.new }
+{
+    match file_place(new.path.ids(), card) {
+        Some(place) => replace_file(card, place, spares, new),
+        None => add_file(card, spares, new),
+    }
+}
+
+/// The new files replace those of their paths, one after another, which takes no memory.
+#[tactic(auto, using(crate::proofs::Put::all_ready))]
+pub fn put_files(card: &mut CardState, spares: &mut FileList, new: &[FileState])
+    requires ready { All (IsReadyFor card.old.files spares.old) new.now }
+    requires room { length card.old.files + length spares.old ≤ 4160 }
+    ensures value { card.new ≡ record card.old { files = with_files card.old.files new.now } }
+    ensures room { length card.new.files + length spares.new ≡ length card.old.files + length spares.old }
+    ensures ready { StaysReady card.old.files spares.old card.new.files spares.new }
+{
+    let [file, rest @ ..] = new else {
+        return;
+    };
+    put_file(card, spares, file);
+    put_files(card, spares, rest);
+}
+
+fn copy_of(alloc: Global, file: &FileState) -> Result<FileState, Memory>
+    ensures { IfOk result (λ copy. copy ≡ file.now) }
+{
+    let fcp = match &file.fcp {
+        Some(bytes) => Some(Bytes::from_slice(alloc, bytes.as_slice())?),
+        None => None,
+    };
+    Ok(FileState {
+        path: file.path.copy(),
+        rows: file.rows.copy()?,
+        active: file.active,
+        arr: file.arr,
+        endless: file.endless,
+        fcp,
+    })
+}
+
+/// Puts copies of files at the end.
+fn put_copies(alloc: Global, out: &mut FileList, files: &[FileState]) -> Result<(), Memory>
+    ensures { OnOk result (out.new ≡ out.old ++ files.now) }
+{
+    let [file, rest @ ..] = files else {
+        return Ok(());
+    };
+    out.push(copy_of(alloc, file)?)?;
+    put_copies(alloc, out, rest)
+}
+
+/// Puts copies of the files of changes at the end.
+fn put_changes(alloc: Global, out: &mut FileList, changes: &[Change]) -> Result<(), Memory>
+    ensures { OnOk result (out.new ≡ out.old ++ stock.all_files changes.now) }
+{
+    let [change, rest @ ..] = changes else {
+        return Ok(());
+    };
+    put_copies(alloc, out, change.files.as_slice())?;
+    put_changes(alloc, out, rest)
+}
+
+/// Puts spares for cards at the end, a copy of each change's files for each card.
+fn put_spares(
+    alloc: Global,
+    out: &mut Spares,
+    cards: &[CardState],
+    changes: &Changes,
+) -> Result<(), Memory>
+    ensures { OnOk result (out.new ≡ out.old ++ map (λ _. stock.all_files changes.now) cards.now) }
+{
+    let [_, rest @ ..] = cards else {
+        return Ok(());
+    };
+    let mut spares = Sequence::new(alloc);
+    put_changes(alloc, &mut spares, changes.as_slice())?;
+    out.push(spares)?;
+    put_spares(alloc, out, rest, changes)
+}
+
+/// The spares of cards before any FETCH.
+pub fn spares_of(alloc: Global, cards: &[CardState], changes: &Changes) -> Result<Spares, Memory>
+    ensures { IfOk result (λ spares. spares ≡ map (λ _. stock.all_files changes.now) cards.now) }
+{
+    let mut out = Sequence::new(alloc);
+    put_spares(alloc, &mut out, cards, changes)?;
+    Ok(out)
+}
