@@ -15,8 +15,8 @@ use crate::text::records_content;
 use apdu::{Bytes, Command, Memory, Path, Response, Sequence};
 use arrayvec::ArrayVec;
 use card_model::{
-    ArmedList, CardFiles, CardState, ChannelList, ChannelState, FileState, Images, ScriptedSlot, Slot,
-    WorldEvent,
+    ArmedList, CardFiles, CardState, ChannelList, ChannelState, FileState, Images, ScriptedSlot,
+    Slot, WorldEvent,
 };
 use fcp::{Rows, read_fcp};
 use sim_card::SimSlot;
