@@ -1,3 +1,4 @@
+pub mod Room
 pub mod Waiting
 pub mod Card
 pub mod Instructions

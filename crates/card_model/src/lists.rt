@@ -1,7 +1,9 @@
 // Lists of a fixed room, which take no memory once they are made.
-ghost use Rattle.std.specs.Prelude.{◌≡◌, ◌<◌, ◌∷◌, ◌++◌, [], length, drop, slice_get, slice_set, slice_index_or, IsOk, IfOk, OnOk, OnErr, OnSome};
+ghost use Rattle.std.specs.Prelude.{◌≡◌, ◌<◌, ◌≤◌, ◌∷◌, ◌++◌, [], length, drop, slice_get, slice_set, slice_index_or, IsOk, IfOk, OnOk, OnErr, OnSome};
 ghost use Rattle.std.specs.List.{remove};
 ghost use Rattle.std.specs.Option.{option_copied};
+ghost use Rattle.std.specs.Result.{IsErr};
+ghost use Rattle.card_model.specs.Room.{most_files};
 
 use crate::{ChannelState, FileState};
 use apdu::Memory;
@@ -16,7 +18,7 @@ pub struct ChannelList {
 }
 
 impl Model for ChannelList {
-    ghost use Rattle.std.specs.Prelude.{List, ◌≤◌, length};
+    ghost use Rattle.std.specs.Prelude.{List};
     ghost use Rattle.card_model.specs.declared.world.ChannelState.{ChannelState};
 
     ghost Value = { List ChannelState };
@@ -79,6 +81,7 @@ impl ChannelList {
         ensures ok { OnOk result (self.new ≡ self.old ++ channel ∷ []) }
         ensures err { OnErr result (self.new ≡ self.old) }
         ensures room { length self.old < 20 → IsOk result }
+        ensures full { 20 ≤ length self.old → IsErr result }
     {
         match self.items.try_push(channel) {
             Ok(()) => Ok(()),
@@ -136,6 +139,7 @@ impl ArmedList {
         ensures ok { OnOk result (self.new ≡ self.old ++ change ∷ []) }
         ensures err { OnErr result (self.new ≡ self.old) }
         ensures room { length self.old < 64 → IsOk result }
+        ensures full { 64 ≤ length self.old → IsErr result }
     {
         match self.items.try_push(change) {
             Ok(()) => Ok(()),
@@ -144,10 +148,10 @@ impl ArmedList {
     }
 }
 
-/// The most files that a card can come to have: 64 of its own, and 64 of each of 64 changes.
-const MAX_FILES: usize = 4160;
+// The most files that a card can come to have: 64 of its own, and 64 of each of 64 changes.
+const MOST_FILES: usize = 4160;
 
-/// The files of a card, at most 4,160, for which it takes the room when it is made. Contracts see the list.
+/// The files of a card, at most 4,160, for which the list takes the room when it is made. Contracts see the list.
 #[derive(Drop)]
 pub struct CardFiles {
     items: Vec<FileState>,
@@ -156,13 +160,14 @@ pub struct CardFiles {
 impl Model for CardFiles {
     ghost use Rattle.std.specs.Prelude.{List, ◌≤◌};
     ghost use Rattle.std.specs.Vec.{vec_capacity};
+    ghost use Rattle.card_model.specs.Room.{most_files};
     ghost use Rattle.card_model.specs.declared.world.FileState.{FileState};
 
     ghost Value = { List FileState };
 
     ghost view = { λ l. l.items.items };
 
-    ghost invariant = { λ l. 4160 ≤ vec_capacity l.items };
+    ghost invariant = { λ l. most_files ≤ vec_capacity l.items };
 }
 
 impl CardFiles {
@@ -173,7 +178,7 @@ impl CardFiles {
         ensures { IfOk result (λ files. files ≡ []) }
     {
         Ok(CardFiles {
-            items: Vec::with_capacity(alloc, MAX_FILES)?,
+            items: Vec::with_capacity(alloc, MOST_FILES)?,
         })
     }
 
@@ -209,8 +214,12 @@ impl CardFiles {
     pub fn push(&mut self, file: FileState) -> Result<(), Memory>
         ensures ok { OnOk result (self.new ≡ self.old ++ file ∷ []) }
         ensures err { OnErr result (self.new ≡ self.old) }
-        ensures room { length self.old < 4160 → IsOk result }
+        ensures room { length self.old < most_files → IsOk result }
+        ensures full { most_files ≤ length self.old → IsErr result }
     {
+        if self.items.len() >= MOST_FILES {
+            return Err(Memory);
+        }
         self.items.push(file)?;
         Ok(())
     }

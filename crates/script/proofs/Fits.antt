@@ -3,15 +3,15 @@ use Rattle.std.proofs.Common.{◌≡◌, ℕ, ◌*◌, ◌≤◌, Bool, true, fa
 use Rattle.std.specs.Prelude.{nat_le}
 use Rattle.std.specs.List.{list_all}
 use Rattle.std.proofs.lemmas.Bool.{leb-true}
-use Rattle.std.proofs.lemmas.List.{length-map}
+use Rattle.std.proofs.lemmas.List.{length-map, length-append}
 use Rattle.std.proofs.lemmas.List.Elements.{All-nil, All-cons, All-map}
-use Rattle.card_model.specs.Limits.{HasFittingParameters, IsAid, IsFittingCard, IsFittingChange, count_files}
+use Rattle.card_model.specs.Limits.{HasFittingParameters, IsAid, IsFittingCard, IsFittingChange, all_files, HasRoom}
 use Rattle.script.specs.declared.types.FileSpec.{FileSpec}
 use Rattle.script.specs.declared.types.CardSpec.{CardSpec}
 use Rattle.script.specs.declared.types.ChangeSpec.{ChangeSpec}
 use Rattle.script.specs.Files.{is_kind_within, is_template_within, is_file_within, are_files_within, are_placed, have_shape}
 use Rattle.script.specs.Cards.{is_aid, is_card_within, has_card_shape, is_card, is_change_within, is_change_placed, is_honest, is_change}
-use Rattle.script.specs.World.{file_of, card_of, HasFewFiles, change_of}
+use Rattle.script.specs.World.{file_of, card_of, change_of}
 
 first : (a b : Bool) → (a && b) ≡ true → a ≡ true
 first true b e = refl
@@ -69,17 +69,11 @@ card_fits card e =
     record {
       files = files_fit card.files limits.files;
       aids = passed is_aid IsAid aid_fits card.aids limits.aids;
-      applications = leb-true (length card.aids) 8 limits.count;
+      applications = let few = leb-true (length card.aids) 8 limits.count in omega (arith, few);
     }
 
 pub cards_fit : (cards : List CardSpec) → list_all is_card cards ≡ true → All IsFittingCard (map card_of cards)
 cards_fit cards e = All-map IsFittingCard card_of cards (passed is_card (λ (card : CardSpec). IsFittingCard (card_of card)) card_fits cards e)
-
-card_few : (card : CardSpec) → is_card card ≡ true → HasFewFiles (card_of card)
-card_few card e = files_few card.files (card_limits card e).files
-
-pub cards_few : (cards : List CardSpec) → list_all is_card cards ≡ true → All HasFewFiles (map card_of cards)
-cards_few cards e = All-map HasFewFiles card_of cards (passed is_card (λ (card : CardSpec). HasFewFiles (card_of card)) card_few cards e)
 
 change_within : (change : ChangeSpec) → is_change change ≡ true → is_change_within change ≡ true
 change_within change e =
@@ -100,14 +94,19 @@ change_fits change e = record {
 pub changes_fit : (changes : List ChangeSpec) → list_all is_change changes ≡ true → All IsFittingChange (map change_of changes)
 changes_fit changes e = All-map IsFittingChange change_of changes (passed is_change (λ (change : ChangeSpec). IsFittingChange (change_of change)) change_fits changes e)
 
-counted : (changes : List ChangeSpec) → list_all is_change changes ≡ true → count_files (map change_of changes) ≤ 64 * length changes
+counted : (changes : List ChangeSpec) → list_all is_change changes ≡ true → length (all_files (map change_of changes)) ≤ 64 * length changes
 counted [] e = omega arith
 counted (change ∷ changes) e =
     let few = files_few change.files (change_files change (first (is_change change) (list_all is_change changes) e)) in
     let others = counted changes (second (is_change change) (list_all is_change changes) e) in
-    omega (arith, few, others)
+    let both = length-append (map file_of change.files) (all_files (map change_of changes)) in
+    omega (arith, few, others, both)
 
-pub changes_few : (changes : List ChangeSpec) → list_all is_change changes ≡ true → length changes ≤ 64 → count_files (map change_of changes) ≤ 4096
-changes_few changes e few =
-    let files = counted changes e in
-    omega (arith, files, few)
+card_has_room : (changes : List ChangeSpec) → list_all is_change changes ≡ true → length changes ≤ 64 → (card : CardSpec) → is_card card ≡ true → HasRoom (map change_of changes) (card_of card)
+card_has_room changes keep few card e =
+    let own = files_few card.files (card_limits card e).files in
+    let files = counted changes keep in
+    omega (arith, own, files, few)
+
+pub cards_have_room : (cards : List CardSpec) (changes : List ChangeSpec) → list_all is_card cards ≡ true → list_all is_change changes ≡ true → length changes ≤ 64 → All (HasRoom (map change_of changes)) (map card_of cards)
+cards_have_room cards changes e keep few = All-map (HasRoom (map change_of changes)) card_of cards (passed is_card (λ (card : CardSpec). HasRoom (map change_of changes) (card_of card)) (card_has_room changes keep few) cards e)

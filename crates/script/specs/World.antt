@@ -1,5 +1,5 @@
 -- The cards and changes with which a run of a script begins.
-use Rattle.std.specs.Prelude.{◌≤◌, false, [], ◌∷◌, map, length, None}
+use Rattle.std.specs.Prelude.{false, [], ◌∷◌, map, None}
 use Rattle.fcp.specs.Content.{Content, transparent, linear}
 use Rattle.card_model.specs.declared.world.FileState.{FileState}
 use Rattle.card_model.specs.declared.world.PinState.{PinState}
@@ -37,10 +37,6 @@ card_of card = record {
   waiting = None;
   get_response = card.get_response;
 }
-
--- a card has at most 64 files of its own
-abbrev pub HasFewFiles : CardState → Type 0
-HasFewFiles card = length card.files ≤ 64
 
 abbrev pub change_of : ChangeSpec → Change
 change_of change = record { qualifier = change.qualifier; kind = change.kind; list = change.list; files = map file_of change.files }

@@ -2,7 +2,7 @@
 ghost use Rattle.std.specs.Prelude.{◌≡◌, ◌≤◌, ◌+◌, ◌==◌, ◌++◌, true, map, length, List, ℕ, IfOk, OnOk, IsTrue, All};
 ghost use Rattle.std.specs.List.{list_all};
 ghost use Rattle.fcp.specs.Content.{linear, is_linear};
-ghost use Rattle.card_model.specs.Limits.{IsFittingCard, IsFittingChange, count_files};
+ghost use Rattle.card_model.specs.Limits.{IsFittingCard, IsFittingChange, HasRoom};
 ghost use Rattle.script.specs.Files.{is_kind_within, is_file_within, has_rows, has_shape};
 ghost use Rattle.script.specs.Cards.{is_card, is_change};
 ghost use Rattle.script.specs.Rules.{KeepsCardRules};
@@ -236,7 +236,7 @@ impl Script {
         requires { KeepsCardRules self.now }
         ensures value { IfOk result (λ cards. cards ≡ map spec.card_of self.now.cards) }
         ensures fits { IfOk result (λ cards. All IsFittingCard cards) }
-        ensures few { IfOk result (λ cards. All spec.HasFewFiles cards) }
+        ensures room { IfOk result (λ cards. All (HasRoom (map spec.change_of self.now.changes)) cards) }
     {
         let mut out = Sequence::new(alloc);
         put_cards(alloc, &mut out, self.cards.as_slice())?;
@@ -248,7 +248,6 @@ impl Script {
         requires { KeepsCardRules self.now }
         ensures value { IfOk result (λ changes. changes ≡ map spec.change_of self.now.changes) }
         ensures fits { IfOk result (λ changes. All IsFittingChange changes) }
-        ensures few { IfOk result (λ changes. count_files changes ≤ 4096) }
     {
         let mut out = Sequence::new(alloc);
         put_changes(alloc, &mut out, self.changes.as_slice())?;

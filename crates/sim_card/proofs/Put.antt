@@ -57,9 +57,9 @@ spare_is_ready files spares new old i at is_old other h =
 pub spare_of_missing : (files spares : List FileState) (new : FileState) → find (has_shape_path new.path) (shapes files) ≡ None → IsReadyFor files spares new → list_any (fits new) spares ≡ true
 spare_of_missing files spares new none h = sym (any_of_shapes new spares) ∙ ap (λ o. has_value (same_shape (shape_of new)) o || list_any (same_shape (shape_of new)) (shapes spares)) (sym none) ∙ h
 
--- a card whose file is put where it stands is as it was
-pub unchanged : (card : CardState) (i : ℕ) (file : FileState) → file ≡ get_or card.files i file → card ≡ record card { files = set card.files i file }
-unchanged card i file e = ap (λ files. record card { files = files }) (sym (ap (λ f. set card.files i f) e ∙ set-get_or card.files i file))
+-- files of which one is put where it stands are as they were
+pub unchanged : (files : List FileState) (i : ℕ) (file : FileState) → file ≡ get_or files i file → files ≡ set files i file
+unchanged files i file e = sym (ap (λ f. set files i f) e ∙ set-get_or files i file)
 
 -- a file that is written over by one of its shape
 pub written_stays : (files spares middle rest : List FileState) (i : ℕ) (old new : FileState) → StaysReady files spares middle rest → old ≡ get_or middle i old → fits new old ≡ true → StaysReady files spares (set middle i new) rest
@@ -73,10 +73,8 @@ if_ok (Ok value) h is = h
 if_ok (Err error) h is = absurd (true≢false (sym is))
 
 -- a file that was made to fit, and then written over
-pub replaced : (card middle : CardState) (i : ℕ) (file written new : FileState) → middle ≡ record card { files = set card.files i file } → written ≡ new → record middle { files = set middle.files i written } ≡ record card { files = set card.files i new }
-replaced card middle i file written new fit same =
-    ap (λ (k : CardState). record k { files = set k.files i written }) fit
-    ∙ ap (λ files. record card { files = files }) (set-set card.files i file written ∙ ap (λ f. set card.files i f) same)
+pub replaced : (files middle : List FileState) (i : ℕ) (file written new : FileState) → middle ≡ set files i file → written ≡ new → set middle i written ≡ set files i new
+replaced files middle i file written new fit same = ap (λ l. set l i written) fit ∙ set-set files i file written ∙ ap (λ f. set files i f) same
 
 -- what was ready for files still is
 pub all_ready : (files spares new_files new_spares news : List FileState) → StaysReady files spares new_files new_spares → All (IsReadyFor files spares) news → All (IsReadyFor new_files new_spares) news
@@ -92,10 +90,12 @@ pub with_files_hold : (P : FileState → Type 0) (files news : List FileState) �
 with_files_hold P files [] h p = h
 with_files_hold P files (new ∷ more) h p = with_files_hold P (with_file files new) more (put_holds P files new (position (has_path new.path) files) h (p 0 new (omega arith))) (All-tail P new more p)
 
-pub applied_fits : (card put : CardState) (news : List FileState) (armed : List ℕ) → put ≡ record card { files = with_files card.files news } → IsFittingCard card → All HasFittingParameters news → IsFittingCard (record put { armed = armed; awaiting = true })
-applied_fits card put news armed e fits h =
-    subst (λ (k : CardState). IsFittingCard (record k { armed = armed; awaiting = true })) (sym e)
-    (record { files = with_files_hold HasFittingParameters card.files news fits.files h; aids = fits.aids; applications = fits.applications })
+pub applied_fits : (card : CardState) (put news : List FileState) (armed : List ℕ) → put ≡ with_files card.files news → IsFittingCard card → All HasFittingParameters news → IsFittingCard (record card { files = put; armed = armed; awaiting = true })
+applied_fits card put news armed e fits h = record {
+  files = subst (λ files. All HasFittingParameters files) (sym e) (with_files_hold HasFittingParameters card.files news fits.files h);
+  aids = fits.aids;
+  applications = fits.applications;
+}
 
 -- ---- a card stays stocked
 

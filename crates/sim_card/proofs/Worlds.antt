@@ -10,10 +10,10 @@ use Rattle.card_model.specs.declared.world.Change.{Change}
 use Rattle.card_model.specs.declared.world.CardState.{CardState}
 use Rattle.card_model.specs.declared.world.World.{World}
 use Rattle.card_model.specs.declared.world.WorldEvent.{WorldEvent}
-use Rattle.card_model.specs.Limits.{count_files, HasRoom}
+use Rattle.card_model.specs.Limits.{all_files, HasRoom}
 use Rattle.card_model.specs.Step.{after_event, after_reset}
 use Rattle.sim_card.specs.Shapes.{shape_of}
-use Rattle.sim_card.specs.Spares.{fits, IsStocked, AreStocked, IsStockedWorld, files_of, all_files}
+use Rattle.sim_card.specs.Spares.{fits, IsStocked, AreStocked, IsStockedWorld, files_of}
 use Rattle.sim_card.proofs.Stock.{either_true, same_shape_itself}
 use Rattle.sim_card.proofs.Put.{any_of_shapes}
 use Rattle.sim_card.proofs.Shapes.{event_keeps, event_keeps_changes, reset_keeps_files, reset_keeps_changes}
@@ -61,10 +61,6 @@ stocked_reset w spares h = stocked_as w (after_reset w) spares (reset_keeps_chan
 
 -- ---- a new slot
 
-count_all : (changes : List Change) → length (all_files changes) ≡ count_files changes
-count_all [] = refl
-count_all (change ∷ changes) = length-append change.files (all_files changes) ∙ ap (λ n. length change.files + n) (count_all changes)
-
 abbrev HaveSpares : List FileState → Change → Type 0
 HaveSpares spares change = All (λ file. list_any (fits file) spares ≡ true) change.files
 
@@ -82,7 +78,7 @@ have_all before (change ∷ changes) = All-cons (HaveSpares (before ++ (change.f
 stocked_first : (changes : List Change) (card : CardState) → HasRoom changes card → IsStocked changes card.files (all_files changes)
 stocked_first changes card room = record {
   ready = λ k d lt j e less. either_true _ _ (any_of_shapes (get_or (get_or changes k d).files j e) (all_files changes) ∙ have_all [] changes k d lt j e less);
-  room = rw (count_all changes) room;
+  room = room;
 }
 
 pub stocked_new : (changes : List Change) (cards : List CardState) → All (HasRoom changes) cards → AreStocked changes (map files_of cards) (map (λ (card : CardState). all_files changes) cards)

@@ -5,6 +5,7 @@ use Rattle.apdu.specs.Words.{same_bytes, same_number, has_value}
 use Rattle.fcp.specs.declared.rows.FileKind.{FileKind}
 use Rattle.fcp.specs.declared.rows.FileKind.TheVariants.{Transparent, Linear, Directory}
 use Rattle.fcp.specs.Content.{is_transparent, is_linear, is_directory}
+use Rattle.card_model.specs.Room.{most_files}
 use Rattle.card_model.specs.declared.world.FileState.{FileState}
 use Rattle.card_model.specs.declared.world.Change.{Change}
 use Rattle.card_model.specs.declared.world.CardState.{CardState}
@@ -43,7 +44,7 @@ StaysReady files spares new_files new_spares = (shape : Shape) → IsTrue (is_re
 -- a card's files and its spares are ready for every change, and the card has room for all of them
 pub record IsStocked (changes : List Change) (files spares : List FileState) : Type 0 where
   pub ready : All (IsReadyForChange files spares) changes
-  pub room : length files + length spares ≤ 4160
+  pub room : length files + length spares ≤ most_files
 
 -- the spares of each card, card by card
 abbrev pub AreStocked : List Change → List (List FileState) → List (List FileState) → Type 0
@@ -57,8 +58,3 @@ files_of card = card.files
 
 abbrev pub IsStockedWorld : World → List (List FileState) → Type 0
 IsStockedWorld w spares = AreStocked w.changes (map files_of w.cards) spares
-
--- the files of all changes
-abbrev pub all_files : List Change → List FileState
-all_files [] = []
-all_files (change ∷ changes) = change.files ++ all_files changes

@@ -2,6 +2,7 @@
 ghost use Rattle.std.specs.Prelude.{◌≡◌, ◌≤◌, ◌+◌, length, All};
 ghost use Rattle.card_model.specs.Toolkit as table;
 ghost use Rattle.card_model.specs.Limits.{IsFittingCard, IsFittingChange};
+ghost use Rattle.card_model.specs.Room.{most_files};
 ghost use Rattle.sim_card.specs.Spares.{IsReadyForChange, StaysReady, IsStocked};
 
 use crate::command::{parameters, wanted_le};
@@ -15,13 +16,13 @@ fn apply(card: &mut CardState, spares: &mut FileList, change: &Change)
     requires card { IsFittingCard card.old }
     requires change { IsFittingChange change.now }
     requires ready { IsReadyForChange card.old.files spares.old change.now }
-    requires room { length card.old.files + length spares.old ≤ 4160 }
+    requires room { length card.old.files + length spares.old ≤ most_files }
     ensures fits { IsFittingCard card.new }
     ensures value { card.new ≡ table.with_change card.old change.now }
     ensures room { length card.new.files + length spares.new ≡ length card.old.files + length spares.old }
     ensures ready { StaysReady card.old.files spares.old card.new.files spares.new }
 {
-    put_files(card, spares, change.files.as_slice());
+    put_files(&mut card.files, spares, change.files.as_slice());
     card.armed.remove_first();
     card.awaiting = true;
 }

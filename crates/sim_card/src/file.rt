@@ -1,11 +1,12 @@
 // Files, directories and applications of a card, ETSI TS 102 221 clause 8.
 ghost use Rattle.std.specs.Prelude.{◌≡◌, ◌<◌, ◌≤◌, ◌&&◌, length, IfSome, IsTrue, is_some};
+ghost use Rattle.std.specs.List.{position};
 ghost use Rattle.std.specs.Option.{option_copied};
 ghost use Rattle.apdu.specs.Words.{same_number};
 ghost use Rattle.fcp.specs.Content.{first_row as row_of_bytes, is_linear};
 ghost use Rattle.card_model.specs.Card as model;
 
-use card_model::{CardState, FileState};
+use card_model::{CardFiles, CardState, FileState};
 
 /// The id that stands for the directory of the current application.
 pub const APPLICATION_ID: u16 = 0x7FFF;
@@ -22,15 +23,23 @@ pub fn file_at<'a>(path: &[u16], card: &'a CardState) -> Option<&'a FileState>
         .find(|file| file.path.ids() == path)
 }
 
+/// Where the file of a path stands among files.
+pub fn place_in(path: &[u16], files: &CardFiles) -> Option<usize>
+    ensures value { result ≡ position (model.has_path path.now) files.now }
+    ensures within { IfSome result (λ place. place < length files.now) }
+{
+    files
+        .as_slice()
+        .iter()
+        .position(|file| file.path.ids() == path)
+}
+
 /// Where the file of a path stands among the card's files.
 pub fn file_place(path: &[u16], card: &CardState) -> Option<usize>
     ensures value { result ≡ model.file_place path.now card.now }
     ensures within { IfSome result (λ place. place < length card.now.files) }
 {
-    card.files
-        .as_slice()
-        .iter()
-        .position(|file| file.path.ids() == path)
+    place_in(path, &card.files)
 }
 
 /// The bytes of a transparent file.

@@ -64,7 +64,7 @@ fn parameters_answer(
             channel: number,
             bytes,
         });
-        refused(word)
+        answer(&[], word)
     } else {
         answer(bytes.as_slice(), success_word(changes, card))
     }

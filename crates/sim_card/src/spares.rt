@@ -3,15 +3,16 @@ ghost use Rattle.std.specs.Prelude.{◌≡◌, ◌≤◌, ◌<◌, ◌+◌, ◌�
 ghost use Rattle.std.specs.List.{list_any, position};
 ghost use Rattle.apdu.specs.Words.{same_number as is_same_number};
 ghost use Rattle.card_model.specs.declared.world.FileState.{FileState};
-ghost use Rattle.card_model.specs.Card.{file_place as place_in};
+ghost use Rattle.card_model.specs.Card.{has_path};
+ghost use Rattle.card_model.specs.Limits.{all_files};
+ghost use Rattle.card_model.specs.Room.{most_files};
 ghost use Rattle.card_model.specs.Toolkit.{with_file, with_files};
-ghost use Rattle.sim_card.specs.Shapes.{shape_of, shapes};
 ghost use Rattle.sim_card.specs.Spares as stock;
-ghost use Rattle.sim_card.specs.Spares.{same_shape, IsReadyFor, StaysReady};
+ghost use Rattle.sim_card.specs.Spares.{IsReadyFor, StaysReady};
 
-use crate::file::file_place;
+use crate::file::place_in;
 use apdu::{Bytes, Memory, Sequence};
-use card_model::{CardState, Change, Changes, FileList, FileState};
+use card_model::{CardFiles, CardState, Change, Changes, FileList, FileState};
 use fcp::FileKind;
 use std::alloc::Global;
 use std::mem::swap;
@@ -48,8 +49,8 @@ fn template_len(file: &FileState) -> Option<usize>
     }
 }
 
-/// Whether the file can be written over by the new one.
-fn has_shape(file: &FileState, new: &FileState) -> bool
+// Whether the new file can be written over this one.
+fn fits(new: &FileState, file: &FileState) -> bool
     ensures { result ≡ stock.fits new.now file.now }
 {
     file.path.equals(&new.path)
@@ -59,7 +60,7 @@ fn has_shape(file: &FileState, new: &FileState) -> bool
         && same_number(template_len(new), template_len(file))
 }
 
-/// Writes over a file, which takes no memory.
+// Writes over a file, which takes no memory.
 #[tactic(auto, using(crate::proofs::Stock::same_parts))]
 fn write_file(file: &mut FileState, new: &FileState)
     requires { stock.fits new.now file.old ≡ true }
@@ -78,13 +79,10 @@ fn first_spare(spares: &FileList, new: &FileState) -> Option<usize>
     ensures value { result ≡ position (stock.fits new.now) spares.now }
     ensures within { IfSome result (λ place. place < length spares.now) }
 {
-    spares
-        .as_slice()
-        .iter()
-        .position(|spare| has_shape(spare, new))
+    spares.as_slice().iter().position(|spare| fits(new, spare))
 }
 
-/// Where the first spare of the new file's shape stands.
+// Where the first spare of the new file's shape stands.
 #[tactic(auto, using(crate::proofs::Stock::no_spare, crate::proofs::Stock::spare_fits))]
 fn spare_place(spares: &FileList, new: &FileState) -> usize
     requires { list_any (stock.fits new.now) spares.now ≡ true }
@@ -97,77 +95,77 @@ fn spare_place(spares: &FileList, new: &FileState) -> usize
     }
 }
 
-/// The file at this place becomes one of the new file's shape, where it is none: it changes places with a spare.
-fn make_fit(card: &mut CardState, place: usize, spares: &mut FileList, new: &FileState)
-    requires place { place_in new.now.path card.old ≡ Some place }
-    requires ready { IsReadyFor card.old.files spares.old new.now }
-    ensures shape { IfSome (slice_get card.new.files place) (λ file. stock.fits new.now file ≡ true) }
-    ensures within { place < length card.new.files }
-    ensures others { IfSome (slice_get card.new.files place) (λ file. card.new ≡ record card.old { files = slice_set card.old.files place file }) }
+// The file at this place becomes one of the new file's shape: where it is none it changes places with a spare.
+fn make_fit(files: &mut CardFiles, place: usize, spares: &mut FileList, new: &FileState)
+    requires place { position (has_path new.now.path) files.old ≡ Some place }
+    requires ready { IsReadyFor files.old spares.old new.now }
+    ensures within { place < length files.new }
+    ensures shape { IfSome (slice_get files.new place) (λ file. stock.fits new.now file ≡ true) }
+    ensures others { IfSome (slice_get files.new place) (λ file. files.new ≡ slice_set files.old place file) }
     ensures count { length spares.new ≡ length spares.old }
-    ensures ready { StaysReady card.old.files spares.old card.new.files spares.new }
+    ensures ready { StaysReady files.old spares.old files.new spares.new }
 {
-    if !has_shape(&card.files.as_slice()[place], new) {
+    if !fits(new, &files.as_slice()[place]) {
         let spare = spare_place(spares, new);
-        swap(card.files.at_mut(place), spares.at_mut(spare));
+        swap(files.at_mut(place), spares.at_mut(spare));
     }
 }
 
-/// The new file replaces the one at this place, which has its path.
-fn replace_file(card: &mut CardState, place: usize, spares: &mut FileList, new: &FileState)
-    requires place { place_in new.now.path card.old ≡ Some place }
-    requires ready { IsReadyFor card.old.files spares.old new.now }
-    ensures value { card.new ≡ record card.old { files = slice_set card.old.files place new.now } }
+// The new file replaces the one at this place, which has its path.
+fn replace_file(files: &mut CardFiles, place: usize, spares: &mut FileList, new: &FileState)
+    requires place { position (has_path new.now.path) files.old ≡ Some place }
+    requires ready { IsReadyFor files.old spares.old new.now }
+    ensures value { files.new ≡ slice_set files.old place new.now }
     ensures count { length spares.new ≡ length spares.old }
-    ensures ready { StaysReady card.old.files spares.old card.new.files spares.new }
+    ensures ready { StaysReady files.old spares.old files.new spares.new }
 {
-    make_fit(card, place, spares, new);
-    write_file(card.files.at_mut(place), new);
+    make_fit(files, place, spares, new);
+    write_file(files.at_mut(place), new);
 }
 
-/// The new file goes last.
-fn add_file(card: &mut CardState, spares: &mut FileList, new: &FileState)
-    requires missing { place_in new.now.path card.old ≡ None }
-    requires ready { IsReadyFor card.old.files spares.old new.now }
-    requires room { length card.old.files + length spares.old ≤ 4160 }
-    ensures value { card.new ≡ record card.old { files = card.old.files ++ new.now ∷ [] } }
+// The new file goes last.
+fn add_file(files: &mut CardFiles, spares: &mut FileList, new: &FileState)
+    requires missing { position (has_path new.now.path) files.old ≡ None }
+    requires ready { IsReadyFor files.old spares.old new.now }
+    requires room { length files.old + length spares.old ≤ most_files }
+    ensures value { files.new ≡ files.old ++ new.now ∷ [] }
     ensures count { length spares.new + 1 ≡ length spares.old }
-    ensures ready { StaysReady card.old.files spares.old card.new.files spares.new }
+    ensures ready { StaysReady files.old spares.old files.new spares.new }
 {
     let spare = spare_place(spares, new);
     let mut file = spares.remove(spare);
     write_file(&mut file, new);
-    let _ = card.files.push(file);
+    let _ = files.push(file);
 }
 
-/// The new file replaces the one of its path; a new path goes last.
-fn put_file(card: &mut CardState, spares: &mut FileList, new: &FileState)
-    requires ready { IsReadyFor card.old.files spares.old new.now }
-    requires room { length card.old.files + length spares.old ≤ 4160 }
-    ensures value { card.new ≡ record card.old { files = with_file card.old.files new.now } }
-    ensures room { length card.new.files + length spares.new ≡ length card.old.files + length spares.old }
-    ensures ready { StaysReady card.old.files spares.old card.new.files spares.new }
+// The new file replaces the one of its path; a new path goes last.
+fn put_file(files: &mut CardFiles, spares: &mut FileList, new: &FileState)
+    requires ready { IsReadyFor files.old spares.old new.now }
+    requires room { length files.old + length spares.old ≤ most_files }
+    ensures value { files.new ≡ with_file files.old new.now }
+    ensures room { length files.new + length spares.new ≡ length files.old + length spares.old }
+    ensures ready { StaysReady files.old spares.old files.new spares.new }
 {
-    match file_place(new.path.ids(), card) {
-        Some(place) => replace_file(card, place, spares, new),
-        None => add_file(card, spares, new),
+    match place_in(new.path.ids(), files) {
+        Some(place) => replace_file(files, place, spares, new),
+        None => add_file(files, spares, new),
     }
 }
 
 /// The new files replace those of their paths, one after another, which takes no memory.
 #[tactic(auto, using(crate::proofs::Put::all_ready))]
-pub fn put_files(card: &mut CardState, spares: &mut FileList, new: &[FileState])
-    requires ready { All (IsReadyFor card.old.files spares.old) new.now }
-    requires room { length card.old.files + length spares.old ≤ 4160 }
-    ensures value { card.new ≡ record card.old { files = with_files card.old.files new.now } }
-    ensures room { length card.new.files + length spares.new ≡ length card.old.files + length spares.old }
-    ensures ready { StaysReady card.old.files spares.old card.new.files spares.new }
+pub fn put_files(files: &mut CardFiles, spares: &mut FileList, new: &[FileState])
+    requires ready { All (IsReadyFor files.old spares.old) new.now }
+    requires room { length files.old + length spares.old ≤ most_files }
+    ensures value { files.new ≡ with_files files.old new.now }
+    ensures room { length files.new + length spares.new ≡ length files.old + length spares.old }
+    ensures ready { StaysReady files.old spares.old files.new spares.new }
 {
     let [file, rest @ ..] = new else {
         return;
     };
-    put_file(card, spares, file);
-    put_files(card, spares, rest);
+    put_file(files, spares, file);
+    put_files(files, spares, rest);
 }
 
 fn copy_of(alloc: Global, file: &FileState) -> Result<FileState, Memory>
@@ -187,7 +185,7 @@ fn copy_of(alloc: Global, file: &FileState) -> Result<FileState, Memory>
     })
 }
 
-/// Puts copies of files at the end.
+// Puts copies of files at the end.
 fn put_copies(alloc: Global, out: &mut FileList, files: &[FileState]) -> Result<(), Memory>
     ensures { OnOk result (out.new ≡ out.old ++ files.now) }
 {
@@ -198,9 +196,9 @@ fn put_copies(alloc: Global, out: &mut FileList, files: &[FileState]) -> Result<
     put_copies(alloc, out, rest)
 }
 
-/// Puts copies of the files of changes at the end.
+// Puts copies of the files of changes at the end.
 fn put_changes(alloc: Global, out: &mut FileList, changes: &[Change]) -> Result<(), Memory>
-    ensures { OnOk result (out.new ≡ out.old ++ stock.all_files changes.now) }
+    ensures { OnOk result (out.new ≡ out.old ++ all_files changes.now) }
 {
     let [change, rest @ ..] = changes else {
         return Ok(());
@@ -209,14 +207,14 @@ fn put_changes(alloc: Global, out: &mut FileList, changes: &[Change]) -> Result<
     put_changes(alloc, out, rest)
 }
 
-/// Puts spares for cards at the end, a copy of each change's files for each card.
+// Puts spares for cards at the end, a copy of each change's files for each card.
 fn put_spares(
     alloc: Global,
     out: &mut Spares,
     cards: &[CardState],
     changes: &Changes,
 ) -> Result<(), Memory>
-    ensures { OnOk result (out.new ≡ out.old ++ map (λ _. stock.all_files changes.now) cards.now) }
+    ensures { OnOk result (out.new ≡ out.old ++ map (λ _. all_files changes.now) cards.now) }
 {
     let [_, rest @ ..] = cards else {
         return Ok(());
@@ -229,7 +227,7 @@ fn put_spares(
 
 /// The spares of cards before any FETCH.
 pub fn spares_of(alloc: Global, cards: &[CardState], changes: &Changes) -> Result<Spares, Memory>
-    ensures { IfOk result (λ spares. spares ≡ map (λ _. stock.all_files changes.now) cards.now) }
+    ensures { IfOk result (λ spares. spares ≡ map (λ _. all_files changes.now) cards.now) }
 {
     let mut out = Sequence::new(alloc);
     put_spares(alloc, &mut out, cards, changes)?;

@@ -1,6 +1,7 @@
 use Rattle.std.proofs.Common.{map, subst, sym, ap, ◌∙◌}
 use Rattle.card_model.specs.declared.world.CardState.{CardState}
-use Rattle.sim_card.specs.Spares.{AreStocked, files_of, all_files}
+use Rattle.card_model.specs.Limits.{all_files}
+use Rattle.sim_card.specs.Spares.{AreStocked, files_of}
 use Rattle.sim_card.proofs.Worlds.{stocked_new}
 use Rattle.sim_card.proofs.slot.SimSlot.new.Goals as goal
 
