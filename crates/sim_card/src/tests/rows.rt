@@ -468,6 +468,24 @@ fn manage_channel_row(rt: HostRuntime) -> Result<(), Fail> {
     )
 }
 
+// A channel from its opening to its closing, and again.
+#[test]
+fn channel_conversation(rt: HostRuntime) -> Result<(), Fail> {
+    table(
+        &rt,
+        rt.alloc(),
+        "0070000001 019000
+        01A4040C07A0000000871002 9000
+        81F2000C 9000
+        00708001 9000
+        01A4000C023F00 6881
+        81F2000C 6881
+        0070000001 019000
+        01A4040C05A000000099 6A82
+        00708001 9000",
+    )
+}
+
 // TERMINAL PROFILE.
 #[test]
 fn terminal_profile_row(rt: HostRuntime) -> Result<(), Fail> {
