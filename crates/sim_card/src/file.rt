@@ -57,6 +57,7 @@ pub fn row_from_one(row: u8, file: &FileState) -> Option<&[u8]>
     ensures value { option_copied result ≡ model.row_from_one row file.now }
     ensures wide { IsTrue (is_linear file.now.rows.kind) → IfSome result (λ r. length r.now ≤ 255) }
 {
+    // the count's contract tells that a linear file's width is a byte
     let _count = file.rows.count();
     if 0 < row {
         file.rows.row(row as usize - 1)

@@ -23,6 +23,7 @@ fn write_bytes(file: &mut FileState, at: usize, body: &[u8])
     ensures fits { HasFittingParameters file.new }
     ensures value { file.new ≡ table.with_file_row file.old 0 (written_at at body.now (row_of_bytes file.old.rows.rows)) }
 {
+    // the count's contract tells that the content has the form of its kind: one row, as wide as the file
     let _count = file.rows.count();
     file.rows.write_at(0, at, body);
 }
@@ -73,10 +74,7 @@ fn binary_refusal_at(card: &CardState, place: usize, command: &Command) -> Optio
     ensures value { IfSome (slice_get card.now.files place) (λ file. result ≡ table.binary_refusal card.now file command.now) }
     ensures fits { IfNone result (IfSome (slice_get card.now.files place) (λ file. TakesBytes file command.now)) }
 {
-    match card.files.get(place) {
-        Some(file) => binary_refusal(card, file, command),
-        None => None,
-    }
+    binary_refusal(card, &card.files.as_slice()[place], command)
 }
 
 fn update_binary_found(
@@ -155,10 +153,7 @@ fn record_refusal_at(card: &CardState, place: usize, command: &Command) -> Optio
     ensures value { IfSome (slice_get card.now.files place) (λ file. result ≡ table.record_refusal card.now file command.now) }
     ensures fits { IfNone result (IfSome (slice_get card.now.files place) (λ file. TakesRecord file command.now)) }
 {
-    match card.files.get(place) {
-        Some(file) => record_refusal(card, file, command),
-        None => None,
-    }
+    record_refusal(card, &card.files.as_slice()[place], command)
 }
 
 fn update_record_found(
