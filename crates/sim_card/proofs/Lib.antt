@@ -3,6 +3,7 @@ pub mod Keys
 pub mod Numbers
 pub mod Walk
 pub mod Refusals
+pub mod Announcements
 pub mod Tries
 pub mod Resets
 pub mod Stock

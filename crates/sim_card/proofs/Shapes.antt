@@ -40,9 +40,9 @@ module _ (c : CommandValue) where
 -- a command other than FETCH keeps the shape of every file
 pub row_keeps : (changes : List Change) (card : CardState) (place : ℕ) (channel : ChannelState) (c : CommandValue) (row : Instruction) → instruction_of c.ins ≡ Some row → is_fetch row ≡ false → shapes (on_row changes card place channel c row).0.files ≡ shapes card.files
 row_keeps changes card place channel c row is other =
-    row-of-table-keeps c (Keeps c) (λ card word no. refl) (λ card new response same alike h no. alike) (λ card change fetch no. absurd (no fetch))
-    (λ changes card place key verify here pin no. refl) (λ card place key word here no. refl) (dropped c)
-    changes card place channel row is (λ fetch. no_fetch row other (sym is ∙ fetch))
+    row-of-table-keeps changes c (Keeps c) (λ card word fails no. refl) (λ card new body same alike no. alike) (λ card new bytes same alike no. alike)
+    (λ card change fetch no. absurd (no fetch)) (λ card place key here is no. refl) (λ card place key here is no. refl) (dropped c)
+    card place channel row is (λ fetch. no_fetch row other (sym is ∙ fetch))
 
 -- ---- the world
 

@@ -1,18 +1,15 @@
--- The tries of a key grow by its own PIN alone.
+-- The tries of a key grow by a VERIFY of it with its own PIN alone.
 use Rattle.std.proofs.Common.{◌≡◌, ◌<◌, ◌-◌, ℕ, suc, zero, Bool, true, false, if◌then◌else◌, List, [], ◌∷◌, Option, Some, None, refl, sym, ap, subst, ◌∙◌, arith}
 use Rattle.std.specs.Prelude.{slice_get, slice_set, unwrap_or, option_map}
 use Rattle.apdu.specs.Values.{CommandValue, ResponseValue}
-use Rattle.apdu.specs.Words.{same_bytes}
-use Rattle.card_model.specs.declared.instruction.Instruction.TheVariants.{Verify}
 use Rattle.card_model.specs.declared.world.PinState.{PinState}
 use Rattle.card_model.specs.declared.world.Change.{Change}
 use Rattle.card_model.specs.declared.world.CardState.{CardState}
-use Rattle.card_model.specs.Instructions.{instruction_of}
-use Rattle.card_model.specs.Answers.{refuses, succeeds, with_waiting}
+use Rattle.card_model.specs.Answers.{refuses, with_waiting}
 use Rattle.card_model.specs.Verify.{right_key, wrong_key, with_key}
 use Rattle.card_model.specs.Toolkit.{with_change}
 use Rattle.card_model.specs.Step.{on_card}
-use Rattle.sim_card.specs.Laws.{tries_of, KeepsTries}
+use Rattle.sim_card.specs.Laws.{tries_of, IsRight, KeepsTries}
 use Rattle.sim_card.proofs.Walk.{card-keeps}
 
 -- the tries of a key that may be there
@@ -41,15 +38,15 @@ module _ (c : CommandValue) where
   key_of : (key before : PinState) → Some key ≡ Some before → key ≡ before
   key_of key before e = ap (λ (o : Option PinState). unwrap_or o key) e
 
-  right : (changes : List Change) (card : CardState) (place : ℕ) (key : PinState) → instruction_of c.ins ≡ Some Verify → slice_get card.keys place ≡ Some key → same_bytes c.body key.secret ≡ true → KeepsTries c card (succeeds changes (with_key card place (right_key key))).0
-  right changes card place key is here pin = record {
+  right : (card : CardState) (place : ℕ) (key : PinState) → slice_get card.keys place ≡ Some key → IsRight c key → KeepsTries c card (with_key card place (right_key key))
+  right card place key here is = record {
     grown = λ at before after b a less.
         let e : (Some key ≡ Some before) × (Some (right_key key) ≡ Some after) = only_there card.keys place key (right_key key) at before after here b a less in
-        record { verifies = is; pin = subst (λ (k : PinState). same_bytes c.body k.secret ≡ true) (key_of key before e.0) pin };
+        subst (λ (k : PinState). IsRight c k) (key_of key before e.0) is;
   }
 
-  wrong : (card : CardState) (place : ℕ) (key : PinState) (word : ℕ) → slice_get card.keys place ≡ Some key → KeepsTries c card (with_key card place (wrong_key key))
-  wrong card place key word here = record {
+  wrong : (card : CardState) (place : ℕ) (key : PinState) → slice_get card.keys place ≡ Some key → KeepsTries c card (with_key card place (wrong_key key))
+  wrong card place key here = record {
     grown = λ at before after b a less.
         let e : (Some key ≡ Some before) × (Some (wrong_key key) ≡ Some after) = only_there card.keys place key (wrong_key key) at before after here b a less in
         let old : key.tries ≡ before.tries = ap tries_of (key_of key before e.0) in
@@ -62,4 +59,6 @@ module _ (c : CommandValue) where
   dropped card false outcome h = record { grown = h.grown }
 
 pub tries-keep : (changes : List Change) (card : CardState) (c : CommandValue) → KeepsTries c card (on_card changes card c).0
-tries-keep changes card c = card-keeps c (λ card outcome. KeepsTries c card outcome.0) (refused c) (λ card new response same alike h. same_keys c card new same) (λ card change is. same_keys c card (with_change card change) refl) (right c) (wrong c) (dropped c) changes card
+tries-keep changes card c =
+    card-keeps changes c (λ card outcome. KeepsTries c card outcome.0) (λ card word fails. refused c card word) (λ card new body same alike. same_keys c card new same) (λ card new bytes same alike. same_keys c card new same)
+    (λ card change is. same_keys c card (with_change card change) refl) (right c) (λ card place key here is. wrong c card place key here) (dropped c) card
