@@ -1,5 +1,5 @@
 -- Files that stand ready beside a card, so that FETCH takes no memory: each change finds a file of each of its shapes.
-use Rattle.std.specs.Prelude.{◌≤◌, ℕ, ◌+◌, ◌==◌, ◌&&◌, ◌||◌, Bool, List, [], ◌∷◌, ◌++◌, length, find, map, All, IsTrue}
+use Rattle.std.specs.Prelude.{◌≤◌, ℕ, ◌+◌, ◌==◌, ◌&&◌, ◌||◌, Bool, List, [], ◌∷◌, length, find, map, All, IsTrue}
 use Rattle.std.specs.List.{list_any}
 use Rattle.apdu.specs.Words.{same_bytes, same_number, has_value}
 use Rattle.fcp.specs.declared.rows.FileKind.{FileKind}
