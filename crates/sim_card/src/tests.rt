@@ -1,8 +1,7 @@
 // Exchanges with a card of a few files, byte for byte.
 ghost use Rattle.std.specs.Prelude.{◌≡◌, ◌<◌, ◌^◌, length, All, IfOk, IfSome};
 ghost use Rattle.apdu.specs.Values.{HasLe};
-ghost use Rattle.card_model.specs.Limits as limits;
-ghost use Rattle.card_model.specs.Limits.{HasFittingParameters, HasRoom, IsFittingCard, IsFittingChange};
+ghost use Rattle.card_model.specs.Limits.{HasFittingParameters, HasRoom, IsFittingCard, IsFittingChange, all_files};
 
 mod fetch;
 mod rows;
@@ -97,7 +96,7 @@ fn change(alloc: Global) -> Result<Change, Fail>
 
 // How many files the changes have, where there are at most two.
 fn count_files(changes: &[Change]) -> Option<usize>
-    ensures { IfSome result (λ count. count ≡ limits.count_files changes.now) }
+    ensures { IfSome result (λ count. count ≡ length (all_files changes.now)) }
 {
     match changes {
         [] => Some(0),
