@@ -47,14 +47,14 @@ further_bytes ext footer = additional_of (extension_row ext (slice_index footer 
 -- ---- rows and book
 
 -- `+` where it is international, and the digits of the row and of its extension row
-abbrev pub joined : Bool → List ℕ → List ℕ → List ℕ
-joined international own further = (if international then 43 ∷ [] else []) ++ own ++ further
+abbrev pub signed_digits : Bool → List ℕ → List ℕ → List ℕ
+signed_digits international own further = (if international then 43 ∷ [] else []) ++ own ++ further
 
 -- empty where the row itself has no digits
 abbrev pub number_of : List (List ℕ) → List ℕ → List ℕ
 number_of ext footer =
     if is_empty (read_digits (own_bytes footer)) then []
-    else joined (is_international footer) (read_digits (own_bytes footer)) (read_digits (further_bytes ext footer))
+    else signed_digits (is_international footer) (read_digits (own_bytes footer)) (read_digits (further_bytes ext footer))
 
 abbrev pub entry_row : AdnEntry → BookRow
 entry_row entry = if is_empty entry.name && is_empty entry.number then Free else Entry entry

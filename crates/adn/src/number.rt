@@ -25,7 +25,7 @@ pub fn number_of(alloc: Global, ext: &Rows, footer: &[u8]) -> Result<Text, Memor
         return Ok(own);
     }
     let further = read_digits(alloc, further_bytes(ext, footer))?;
-    joined(
+    signed_digits(
         alloc,
         is_international(footer),
         own.as_str(),
@@ -34,8 +34,13 @@ pub fn number_of(alloc: Global, ext: &Rows, footer: &[u8]) -> Result<Text, Memor
 }
 
 /// The sign of an international number, and the digits.
-fn joined(alloc: Global, international: bool, own: &str, further: &str) -> Result<Text, Memory>
-    ensures { IfOk result (λ number. number ≡ phonebook.joined international own.now further.now) }
+fn signed_digits(
+    alloc: Global,
+    international: bool,
+    own: &str,
+    further: &str,
+) -> Result<Text, Memory>
+    ensures { IfOk result (λ number. number ≡ phonebook.signed_digits international own.now further.now) }
 {
     let mut number = String::new(alloc);
     number.push_str(if international { "+" } else { "" })?;

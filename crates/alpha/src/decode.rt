@@ -55,7 +55,11 @@ fn put_narrow(name: &mut String, bytes: &[u8]) -> Result<(), Memory>
     let [count, base, rest @ ..] = bytes else {
         return Ok(());
     };
-    put_alphabet(name, Some(u32::from(*base) * 0x80), first(rest, *count))
+    put_alphabet(
+        name,
+        Some(u32::from(*base) * 0x80),
+        first_bytes(rest, *count),
+    )
 }
 
 /// A count, the base in two bytes, and that many bytes.
@@ -66,7 +70,7 @@ fn put_wide(name: &mut String, bytes: &[u8]) -> Result<(), Memory>
         return Ok(());
     };
     let base = u32::from(*high) * 256 + u32::from(*low);
-    put_alphabet(name, Some(base), first(rest, *count))
+    put_alphabet(name, Some(base), first_bytes(rest, *count))
 }
 
 /// The bytes before the first FF, in the default alphabet.
@@ -77,7 +81,7 @@ fn put_default(name: &mut String, bytes: &[u8]) -> Result<(), Memory>
 }
 
 /// So many bytes, or as many as there are.
-fn first(bytes: &[u8], count: u8) -> &[u8]
+fn first_bytes(bytes: &[u8], count: u8) -> &[u8]
     ensures { result.now ≡ take count bytes.now }
 {
     &bytes[..bytes.len().min(usize::from(count))]

@@ -8,15 +8,19 @@ ghost use Rattle.alpha.specs.Names.{decode_name, alphabet_bytes, written_name, n
 use crate::tables::{ESCAPE, default_byte, extension_byte};
 use apdu::{Bytes, Memory, Text};
 use std::alloc::Global;
+use thiserror::Error;
 
 /// Why a name cannot be written.
-#[derive(Clone, Copy, Debug, PartialEq, Eq)]
+#[derive(Clone, Copy, Debug, PartialEq, Eq, Error)]
 pub enum AlphaError {
     /// The name's first character that is U+FFFF or past it, which UCS2 cannot write.
+    #[error("UCS2 cannot write U+{code:04X}", code = u32::from(*.0))]
     NotWritable(char),
     /// The name needs more bytes than there is room for.
+    #[error("the name needs {need} bytes and has room for {room}")]
     TooLong { need: usize, room: usize },
     /// Memory ran out.
+    #[error("out of memory")]
     Memory,
 }
 
@@ -53,7 +57,7 @@ pub fn encode_alpha(alloc: Global, text: &Text, room: usize) -> Result<Bytes, Al
             room,
         });
     }
-    fill(&mut bytes, room)?;
+    put_fill(&mut bytes, room)?;
     Ok(Bytes::from_vec(bytes))
 }
 
@@ -145,7 +149,7 @@ fn put_unit(bytes: &mut Vec<u8>, character: char) -> Result<(), Memory>
 }
 
 /// FF up to the room.
-fn fill(bytes: &mut Vec<u8>, room: usize) -> Result<(), Memory>
+fn put_fill(bytes: &mut Vec<u8>, room: usize) -> Result<(), Memory>
     requires { vec_len bytes.old ≤ room }
     ensures { OnOk result (bytes.new.items ≡ filled_to 0xFF room bytes.old.items) }
 {

@@ -1,5 +1,3 @@
-ghost use Rattle.std.specs.Prelude.{◌<◌};
-
 use super::*;
 use apdu::{Memory, Text};
 use std::alloc::Global;
@@ -9,25 +7,59 @@ use std::test::Fail;
 const DEFAULT: &str = "@£$¥èéùìòÇ\nØø\rÅåΔ_ΦΓΛΩΠΨΣΘΞ\u{1B}ÆæßÉ !\"#¤%&'()*+,-./0123456789:;<=>?\
 ¡ABCDEFGHIJKLMNOPQRSTUVWXYZÄÖÑÜ§¿abcdefghijklmnopqrstuvwxyzäöñüà";
 
-fn half(digit: u8) -> u8
-    ensures { result < 16 }
-{
-    match digit {
-        b'0'..=b'9' => digit - b'0',
-        b'A'..=b'F' => digit - b'A' + 10,
-        _ => 0,
-    }
-}
+/// Bytes, and the name that they are read as and written from.
+const BOTH_WAYS: &str = ":\n\
+FFFF:\n\
+411B28FF:A{\n\
+1B0A:\u{C}\n\
+1B14:^\n\
+1B28:{\n\
+1B29:}\n\
+1B2F:\\\n\
+1B3C:[\n\
+1B3D:~\n\
+1B3E:]\n\
+1B40:|\n\
+1B65:€\n\
+09:Ç\n\
+8000E7:ç\n\
+80042F:Я\n\
+80042FFF:Я\n\
+80042F04300431FF:Яаб\n\
+80004120AC042FFFFF:A€Я\n\
+80001BFF:\u{1B}\n\
+80FFFDFFFEFFFF:\u{FFFD}\u{FFFE}";
 
-fn from_hex(alloc: Global, text: &str) -> Result<Vec<u8>, Memory> {
-    let mut bytes = Vec::new(alloc);
-    let mut rest = text.as_bytes();
-    while let [high, low, others @ ..] = rest {
-        bytes.push(half(*high) * 16 + half(*low))?;
-        rest = others;
-    }
-    Ok(bytes)
-}
+/// Other bytes, and the name that they are read as.
+const READ: &str = "41FF42:A\n\
+4180FE:A\u{FFFD}\u{FFFD}\n\
+80042FFFFF0430:Я\n\
+80D800DFFFE000:\u{FFFD}\u{FFFD}\u{E000}\n\
+810308AF41B0:ЯAа\n\
+8101084142:A\n\
+81050841:A\n\
+810208FF41:ѿA\n\
+8103:\n\
+82020530812D:Ա-\n\
+8202FFFE8182:\u{FFFF}\u{FFFD}\n\
+8202D7FF8081:\u{D7FF}\u{FFFD}\n\
+820205:\n\
+411B:A \n\
+1BFF: \n\
+1B80: \u{FFFD}\n\
+1B1B: \n\
+1B1B65: e\n\
+1B1B1B65: €\n\
+1B41:A\n\
+8102081BAF: Я\n\
+8101081B65: ";
+
+/// A name, the room for it, and why it cannot be written.
+const REFUSED: &str = "A:0:the name needs 1 bytes and has room for 0
+€:1:the name needs 2 bytes and has room for 1
+Я:2:the name needs 3 bytes and has room for 2
+\u{1F600}:10:UCS2 cannot write U+1F600
+A\u{FFFF}\u{1F600}:1:UCS2 cannot write U+FFFF";
 
 fn one_character(alloc: Global, character: char) -> Result<Text, Memory> {
     let mut text = String::new(alloc);
@@ -54,38 +86,16 @@ fn each_default_character_is_written_and_read(rt: HostRuntime) -> Result<(), Fai
 
 #[test]
 fn names_are_written_and_read(rt: HostRuntime) -> Result<(), Fail> {
-    let cases = [
-        ("", ""),
-        ("FFFF", ""),
-        ("411B28FF", "A{"),
-        ("1B0A", "\u{C}"),
-        ("1B14", "^"),
-        ("1B28", "{"),
-        ("1B29", "}"),
-        ("1B2F", "\\"),
-        ("1B3C", "["),
-        ("1B3D", "~"),
-        ("1B3E", "]"),
-        ("1B40", "|"),
-        ("1B65", "€"),
-        ("09", "Ç"),
-        ("8000E7", "ç"),
-        ("80042F", "Я"),
-        ("80042FFF", "Я"),
-        ("80042F04300431FF", "Яаб"),
-        ("80004120AC042FFFFF", "A€Я"),
-        ("80001BFF", "\u{1B}"),
-        ("80FFFDFFFEFFFF", "\u{FFFD}\u{FFFE}"),
-    ];
-    for (hex, name) in cases {
-        let bytes = from_hex(rt.alloc(), hex)?;
+    for case in BOTH_WAYS.lines() {
+        let (hex, name) = case.split_once(':').ok_or("bytes")?;
+        let bytes = hex::decode(rt.alloc(), hex)?;
         let text = Text::from_str(rt.alloc(), name)?;
         let written = encode_alpha(rt.alloc(), &text, bytes.len())?;
-        assert_eq!(rt; written.as_slice(), bytes.as_slice(), "at {hex}");
+        assert_eq!(rt; written.as_slice(), bytes.as_slice(), "at {case}");
         assert_eq!(rt;
-            decode_alpha(rt.alloc(), bytes.as_slice())?.as_str(),
+            decode_alpha(rt.alloc(), &bytes)?.as_str(),
             name,
-            "at {hex}"
+            "at {case}"
         );
     }
     Ok(())
@@ -93,36 +103,13 @@ fn names_are_written_and_read(rt: HostRuntime) -> Result<(), Fail> {
 
 #[test]
 fn other_bytes_are_read(rt: HostRuntime) -> Result<(), Fail> {
-    let cases = [
-        ("41FF42", "A"),
-        ("4180FE", "A\u{FFFD}\u{FFFD}"),
-        ("80042FFFFF0430", "Я"),
-        ("80D800DFFFE000", "\u{FFFD}\u{FFFD}\u{E000}"),
-        ("810308AF41B0", "ЯAа"),
-        ("8101084142", "A"),
-        ("81050841", "A"),
-        ("810208FF41", "ѿA"),
-        ("8103", ""),
-        ("82020530812D", "Ա-"),
-        ("8202FFFE8182", "\u{FFFF}\u{FFFD}"),
-        ("8202D7FF8081", "\u{D7FF}\u{FFFD}"),
-        ("820205", ""),
-        ("411B", "A "),
-        ("1BFF", " "),
-        ("1B80", " \u{FFFD}"),
-        ("1B1B", " "),
-        ("1B1B65", " e"),
-        ("1B1B1B65", " €"),
-        ("1B41", "A"),
-        ("8102081BAF", " Я"),
-        ("8101081B65", " "),
-    ];
-    for (hex, name) in cases {
-        let bytes = from_hex(rt.alloc(), hex)?;
+    for case in READ.lines() {
+        let (hex, name) = case.split_once(':').ok_or("bytes")?;
+        let bytes = hex::decode(rt.alloc(), hex)?;
         assert_eq!(rt;
-            decode_alpha(rt.alloc(), bytes.as_slice())?.as_str(),
+            decode_alpha(rt.alloc(), &bytes)?.as_str(),
             name,
-            "at {hex}"
+            "at {case}"
         );
     }
     Ok(())
@@ -130,16 +117,15 @@ fn other_bytes_are_read(rt: HostRuntime) -> Result<(), Fail> {
 
 #[test]
 fn other_names_are_refused(rt: HostRuntime) -> Result<(), Fail> {
-    let cases = [
-        ("A", 0, AlphaError::TooLong { need: 1, room: 0 }),
-        ("€", 1, AlphaError::TooLong { need: 2, room: 1 }),
-        ("Я", 2, AlphaError::TooLong { need: 3, room: 2 }),
-        ("\u{1F600}", 10, AlphaError::NotWritable('\u{1F600}')),
-        ("A\u{FFFF}\u{1F600}", 1, AlphaError::NotWritable('\u{FFFF}')),
-    ];
-    for (name, room, want) in cases {
+    for case in REFUSED.lines() {
+        let (name, rest) = case.split_once(':').ok_or("a name")?;
+        let (room, want) = rest.split_once(':').ok_or("a room")?;
         let text = Text::from_str(rt.alloc(), name)?;
-        assert_eq!(rt; encode_alpha(rt.alloc(), &text, room).err(), Some(want));
+        let error = encode_alpha(rt.alloc(), &text, room.parse()?)
+            .err()
+            .ok_or("a refusal")?;
+        let found = format!(in rt.alloc(); "{error}")?;
+        assert_eq!(rt; found.as_str(), want, "at {case}");
     }
     Ok(())
 }

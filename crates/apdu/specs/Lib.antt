@@ -4,3 +4,4 @@ pub mod Apdu
 pub mod Stream
 pub mod MemoryStream
 pub mod Lends
+pub mod Reserved

@@ -1,5 +1,5 @@
 // The adapters over the readers and writers of the standard library. They tell no content.
-ghost use Rattle.std.specs.Prelude.{◌≡◌, None};
+ghost use Rattle.std.specs.Prelude.{◌≡◌, None, false};
 
 use crate::{Failed, Sink, Source};
 use std::io::{Read, Write};
@@ -13,8 +13,13 @@ pub struct ReaderSource<R> {
     pub(crate) faults: u64,
 }
 
-impl<R> ReaderSource<R> {
-    pub fn new(reader: R) -> ReaderSource<R> {
+impl<R: Read> ReaderSource<R> {
+    pub fn new(reader: R) -> ReaderSource<R>
+        ensures left { ⟦<ReaderSource<R> as Source>⟧.left result ≡ None }
+        ensures ended { ⟦<ReaderSource<R> as Source>⟧.ended result ≡ false }
+        ensures given { ⟦<ReaderSource<R> as Source>⟧.given result ≡ 0 }
+        ensures faults { ⟦<ReaderSource<R> as Source>⟧.faults result ≡ 0 }
+    {
         ReaderSource {
             reader,
             ended: false,
@@ -53,8 +58,11 @@ pub struct WriterSink<W> {
     pub(crate) faults: u64,
 }
 
-impl<W> WriterSink<W> {
-    pub fn new(writer: W) -> WriterSink<W> {
+impl<W: Write> WriterSink<W> {
+    pub fn new(writer: W) -> WriterSink<W>
+        ensures written { ⟦<WriterSink<W> as Sink>⟧.written result ≡ None }
+        ensures faults { ⟦<WriterSink<W> as Sink>⟧.faults result ≡ 0 }
+    {
         WriterSink { writer, faults: 0 }
     }
 }

@@ -5,13 +5,16 @@ ghost use Rattle.apdu.specs.Values.{HasLe};
 
 use arrayvec::ArrayVec;
 use std::marker::Model;
+use thiserror::Error;
 
 /// Why bytes are no command or no response.
-#[derive(Clone, Copy, Debug, PartialEq, Eq)]
+#[derive(Clone, Copy, Debug, PartialEq, Eq, Error)]
 pub enum ApduError {
     /// There are only so many bytes.
+    #[error("only {0} bytes")]
     TooShort(usize),
     /// The length byte and the number of bytes do not fit together.
+    #[error("a length of {lc} in {len} bytes")]
     BadLength { lc: usize, len: usize },
 }
 

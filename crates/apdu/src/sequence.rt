@@ -1,5 +1,5 @@
 // A list that contracts see as the list of its items.
-ghost use Rattle.std.specs.Prelude.{◌≡◌, [], ◌∷◌, ◌++◌, ◌<◌, ◌==◌, length, slice_get, slice_set, slice_index_or, take, Some, OnOk, OnErr, OnSome};
+ghost use Rattle.std.specs.Prelude.{◌≡◌, [], ◌∷◌, ◌++◌, ◌<◌, ◌==◌, length, slice_get, slice_set, slice_index_or, take, Some, IfOk, OnOk, OnErr, OnSome};
 ghost use Rattle.std.specs.List as lists;
 ghost use Rattle.std.specs.Option.{option_copied};
 
@@ -116,6 +116,26 @@ impl<T: Drop> Sequence<T> {
         ensures err { OnErr result (self.new ≡ self.old) }
     {
         self.items.push(item)?;
+        Ok(())
+    }
+}
+
+impl<T: Copy> Sequence<T> {
+    /// A copy of these items.
+    pub fn from_slice(alloc: Global, items: &[T]) -> Result<Sequence<T>, Memory>
+        ensures { IfOk result (λ list. list ≡ items.now) }
+    {
+        Ok(Sequence {
+            items: Vec::from_slice(alloc, items)?,
+        })
+    }
+
+    /// Puts copies of these at the end.
+    pub fn extend_from_slice(&mut self, items: &[T]) -> Result<(), Memory>
+        ensures ok { OnOk result (self.new ≡ self.old ++ items.now) }
+        ensures err { OnErr result (self.new ≡ self.old) }
+    {
+        self.items.extend_from_slice(items)?;
         Ok(())
     }
 }

@@ -1,7 +1,10 @@
 // Worked exchanges, and streams that fail at a given call.
 
+ghost use Rattle.std.specs.Prelude.{nat_lt};
+
 use super::*;
 use arrayvec::ArrayVec;
+use std::alloc::Global;
 use std::io;
 use std::io::Write;
 use std::test::Fail;
@@ -263,6 +266,10 @@ fn keeps_bytes_text_and_paths(rt: HostRuntime) -> Result<(), Fail> {
         Bytes::from_vec([5].to_vec(rt.alloc())?).as_slice(),
         [5].as_slice()
     );
+    let mut appended = Bytes::new(rt.alloc());
+    appended.extend_from_slice(&[6])?;
+    appended.extend_from_slice(bytes.as_slice())?;
+    assert_eq!(rt; appended.into_vec().as_slice(), [6, 3, 5].as_slice());
 
     let text = Text::from_str(rt.alloc(), "Jizgült")?;
     assert_eq!(rt; text.as_str(), "Jizgült");
@@ -291,5 +298,62 @@ fn keeps_a_sequence(rt: HostRuntime) -> Result<(), Fail> {
     assert_eq!(rt; list.get(2), Some(&3));
     assert_eq!(rt; list.get(3), None);
     assert_eq!(rt; list.into_vec().len(), 3);
+    Ok(())
+}
+
+#[test]
+fn pushes_within_the_room(rt: HostRuntime) -> Result<(), Fail> {
+    let mut list = Reserved::new(rt.alloc());
+    list.reserve(4)?;
+    list.push_within(1);
+    list.push_within(2);
+    list.extend_within(&[3, 4]);
+    list.push(5)?;
+    list.set(0, 6);
+    *list.at_mut(1) = 7;
+    assert_eq!(rt; list.as_slice(), [6, 7, 3, 4, 5].as_slice());
+    list.truncate(3);
+    assert_eq!(rt; list.remove(0), 6);
+    assert_eq!(rt; list.get(1), Some(&3));
+    assert_eq!(rt; list.len(), 2);
+    let full = Reserved::from_sequence(list.into_sequence());
+    assert_eq!(rt; full.as_slice(), [7, 3].as_slice());
+
+    let mut fixed = Reserved::with_capacity(rt.alloc(), 2)?;
+    assert!(rt; fixed.is_empty());
+    fixed.push_within(1);
+    assert_eq!(rt; fixed.spare(), 1);
+    Ok(())
+}
+
+// A number of two bytes, from which one of one byte is made.
+struct Wide(u16);
+
+impl Make for Wide {
+    type Made = u8;
+
+    ghost can_make = { λ wide. nat_lt wide.0 256 };
+
+    ghost made = { λ wide. wide.0 };
+
+    fn make(&self, _alloc: Global) -> Result<u8, Memory> {
+        Ok(self.0 as u8)
+    }
+}
+
+#[test]
+fn makes_lists_from_lists(rt: HostRuntime) -> Result<(), Fail> {
+    let mut small = Sequence::from_slice(rt.alloc(), &[1, 2])?;
+    small.extend_from_slice(&[3])?;
+    small.extend_made(rt.alloc(), &[Wide(4), Wide(255)])?;
+    assert_eq!(rt; small.as_slice(), [1, 2, 3, 4, 255].as_slice());
+
+    let path = Path::from_ids(&[0x7FFF, 0x6F46]).ok_or("two ids")?;
+    let paths = Sequence::made_from(rt.alloc(), &[path])?;
+    assert_eq!(rt; paths.as_slice()[0].ids(), [0x7FFF, 0x6F46].as_slice());
+
+    let rows = [Bytes::from_slice(rt.alloc(), &[1])?];
+    let copies = Sequence::made_from(rt.alloc(), &rows)?;
+    assert_eq!(rt; copies.as_slice()[0].as_slice(), [1].as_slice());
     Ok(())
 }

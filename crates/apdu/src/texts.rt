@@ -1,5 +1,5 @@
 // Lists of bytes, and text, as contracts see them: a list of bytes.
-ghost use Rattle.std.specs.Prelude.{◌≡◌, ◌≤◌, ◌+◌, length, IfOk, IsUtf8, string_bytes};
+ghost use Rattle.std.specs.Prelude.{◌≡◌, ◌≤◌, ◌+◌, ◌++◌, [], length, IfOk, OnOk, OnErr, IsUtf8, string_bytes};
 ghost use Rattle.apdu.specs.Words.{written_at};
 
 use crate::Memory;
@@ -21,6 +21,15 @@ impl Model for Bytes {
 }
 
 impl Bytes {
+    /// No bytes, with room for so many.
+    pub fn with_capacity(alloc: Global, capacity: usize) -> Result<Bytes, Memory>
+        ensures { IfOk result (λ b. b ≡ []) }
+    {
+        Ok(Bytes {
+            items: Vec::with_capacity(alloc, capacity)?,
+        })
+    }
+
     /// A copy of the bytes.
     pub fn from_slice(alloc: Global, bytes: &[u8]) -> Result<Bytes, Memory>
         ensures { IfOk result (λ b. b ≡ bytes.now) }
@@ -37,10 +46,43 @@ impl Bytes {
         Bytes { items }
     }
 
+    /// No bytes, which takes no memory.
+    pub fn new(alloc: Global) -> Bytes
+        ensures { result ≡ [] }
+    {
+        Bytes {
+            items: Vec::new(alloc),
+        }
+    }
+
+    /// The bytes again, which takes no memory.
+    pub fn into_vec(self) -> Vec<u8>
+        ensures { result.items ≡ self }
+    {
+        let Bytes { items } = self;
+        items
+    }
+
     pub fn as_slice(&self) -> &[u8]
         ensures { result.now ≡ self.now }
     {
         self.items.as_slice()
+    }
+
+    /// A copy of the bytes.
+    pub fn copy(&self) -> Result<Bytes, Memory>
+        ensures { IfOk result (λ b. b ≡ self.now) }
+    {
+        Bytes::from_slice(*self.items.allocator(), self.items.as_slice())
+    }
+
+    /// Puts bytes at the end.
+    pub fn extend_from_slice(&mut self, bytes: &[u8]) -> Result<(), Memory>
+        ensures ok { OnOk result (self.new ≡ self.old ++ bytes.now) }
+        ensures err { OnErr result (self.new ≡ self.old) }
+    {
+        self.items.extend_from_slice(bytes)?;
+        Ok(())
     }
 
     /// Writes over the bytes, as many as there are, which takes no memory.

@@ -8,13 +8,16 @@ ghost use Rattle.bcd.specs.Digits.{digit_texts, read_digits, half_of, bad_digit,
 use apdu::{Memory, Text};
 use arrayvec::ArrayVec;
 use std::alloc::Global;
+use thiserror::Error;
 
 /// Why digits cannot be written.
-#[derive(Clone, Copy, Debug, PartialEq, Eq)]
+#[derive(Clone, Copy, Debug, PartialEq, Eq, Error)]
 pub enum DigitError {
     /// The byte at this index is no digit's text.
+    #[error("byte {0} is no digit")]
     BadDigit(usize),
     /// There are this many digits, which is more than 40.
+    #[error("{0} digits, more than 40")]
     TooMany(usize),
 }
 
@@ -53,17 +56,17 @@ pub fn read_digits(alloc: Global, bytes: &[u8]) -> Result<Text, Memory>
         let Some(low) = text_of(byte % 16) else {
             break;
         };
-        put(&mut digits, low)?;
+        put_text(&mut digits, low)?;
         let Some(high) = text_of(byte / 16) else {
             break;
         };
-        put(&mut digits, high)?;
+        put_text(&mut digits, high)?;
     }
     Ok(Text::from_string(digits))
 }
 
 /// Puts a digit's text at the end.
-fn put(digits: &mut String, text: u8) -> Result<(), Memory>
+fn put_text(digits: &mut String, text: u8) -> Result<(), Memory>
     requires { text < 128 }
     ensures { OnOk result (string_bytes digits.new ≡ string_bytes digits.old ++ text ∷ []) }
 {

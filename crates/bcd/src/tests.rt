@@ -1,63 +1,61 @@
+// Digits of worked bytes.
+
 use super::*;
 use std::test::Fail;
 
+/// Digits, and the bytes that they are written as or why they are refused.
+const WRITTEN: &str = ":
+7:f7
+12:21
+123:21f3
+0123456789:1032547698
+*#,N:badc
+112*9#:11a2b9
+1234567890123456789012345678901234567890:2143658709214365870921436587092143658709
+12a:byte 2 is no digit
++12:byte 0 is no digit
+n:byte 0 is no digit
+12345678901234567890123456789012345678901:41 digits, more than 40
+12345678901234567890123456789012345678901!:byte 41 is no digit";
+
+/// Bytes, and the digits that they are read as.
+const READ: &str = ":
+f7:7
+21:12
+21f3:123
+1032547698:0123456789
+badc:*#,N
+11a2b9:112*9#
+2143658709214365870921436587092143658709:1234567890123456789012345678901234567890
+ff12:
+21e354:123
+214e:12
+21f3ff:123
+21ffff:12";
+
 #[test]
-fn digits_are_written_and_read_back(rt: HostRuntime) -> Result<(), Fail> {
-    let cases = [
-        ("", [].as_slice()),
-        ("7", [0xF7].as_slice()),
-        ("12", [0x21].as_slice()),
-        ("123", [0x21, 0xF3].as_slice()),
-        ("0123456789", [0x10, 0x32, 0x54, 0x76, 0x98].as_slice()),
-        ("*#,N", [0xBA, 0xDC].as_slice()),
-        ("112*9#", [0x11, 0xA2, 0xB9].as_slice()),
-        (
-            "1234567890123456789012345678901234567890",
-            [
-                0x21, 0x43, 0x65, 0x87, 0x09, 0x21, 0x43, 0x65, 0x87, 0x09, 0x21, 0x43, 0x65, 0x87,
-                0x09, 0x21, 0x43, 0x65, 0x87, 0x09,
-            ]
-            .as_slice(),
-        ),
-    ];
-    for (digits, bytes) in cases {
-        assert_eq!(rt; write_digits(digits.as_bytes())?.as_slice(), bytes);
-        assert_eq!(rt; read_digits(rt.alloc(), bytes)?.as_str(), digits);
+fn digits_are_written(rt: HostRuntime) -> Result<(), Fail> {
+    for case in WRITTEN.lines() {
+        let (digits, want) = case.split_once(':').ok_or("digits")?;
+        let found = match write_digits(digits.as_bytes()) {
+            Ok(bytes) => hex::encode(rt.alloc(), bytes.as_slice())?,
+            Err(error) => format!(in rt.alloc(); "{error}")?,
+        };
+        assert_eq!(rt; found.as_str(), want, "at {case}");
     }
     Ok(())
 }
 
 #[test]
-fn halves_past_the_end_are_not_read(rt: HostRuntime) -> Result<(), Fail> {
-    let cases = [
-        ([0xFF, 0x12].as_slice(), ""),
-        ([0x21, 0xE3, 0x54].as_slice(), "123"),
-        ([0x21, 0x4E].as_slice(), "12"),
-        ([0x21, 0xF3, 0xFF].as_slice(), "123"),
-        ([0x21, 0xFF, 0xFF].as_slice(), "12"),
-    ];
-    for (bytes, digits) in cases {
-        assert_eq!(rt; read_digits(rt.alloc(), bytes)?.as_str(), digits);
+fn digits_are_read(rt: HostRuntime) -> Result<(), Fail> {
+    for case in READ.lines() {
+        let (bytes, want) = case.split_once(':').ok_or("bytes")?;
+        let bytes = hex::decode(rt.alloc(), bytes)?;
+        assert_eq!(rt;
+            read_digits(rt.alloc(), &bytes)?.as_str(),
+            want,
+            "at {case}"
+        );
     }
     Ok(())
-}
-
-#[test]
-fn other_digits_are_refused(rt: HostRuntime) {
-    let cases = [
-        ("12a", DigitError::BadDigit(2)),
-        ("+12", DigitError::BadDigit(0)),
-        ("n", DigitError::BadDigit(0)),
-        (
-            "12345678901234567890123456789012345678901",
-            DigitError::TooMany(41),
-        ),
-        (
-            "12345678901234567890123456789012345678901 ",
-            DigitError::BadDigit(41),
-        ),
-    ];
-    for (digits, want) in cases {
-        assert_eq!(rt; write_digits(digits.as_bytes()).err(), Some(want));
-    }
 }

@@ -1,5 +1,5 @@
 -- What a command gives: the card after it, and the response, ETSI TS 102 221 clause 10.2.1.
-use Rattle.std.specs.Prelude.{ℕ, ◌+◌, ◌%◌, Bool, if◌then◌else◌, List, [], length, Option, Some, None}
+use Rattle.std.specs.Prelude.{ℕ, ◌+◌, ◌%◌, Bool, if◌then◌else◌, List, [], length, Option, Some, None, unwrap_or}
 use Rattle.apdu.specs.Values.{CommandValue, ResponseValue}
 use Rattle.apdu.specs.Words.{pair_value, is_empty}
 use Rattle.apdu.specs.Apdu.{refusal}
@@ -12,9 +12,18 @@ use Rattle.card_model.specs.Card.{change_command, first_armed}
 abbrev pub refuses : CardState → ℕ → CardState × ResponseValue
 refuses card word = (card, refusal word)
 
+-- some checks together refuse with this word, or the command goes on
+abbrev pub unless_refused : CardState → Option ℕ → CardState × ResponseValue → CardState × ResponseValue
+unless_refused card (Some word) outcome = refuses card word
+unless_refused card None outcome = outcome
+
 -- XX of 256 is 00
 abbrev pub length_byte : ℕ → ℕ
 length_byte n = n % 256
+
+-- 6CXX: Le is not this length
+abbrev pub other_length : ℕ → ℕ
+other_length n = 0x6C00 + length_byte n
 
 -- the status word that announces a change, unless a TERMINAL RESPONSE is awaited
 abbrev pub announced_word : Bool → Option Change → ℕ
@@ -47,6 +56,10 @@ parameters c = pair_value c.p1 c.p2
 -- Le of a command without a body
 abbrev pub wanted_le : CommandValue → Option ℕ
 wanted_le c = if is_empty c.body then c.le else None
+
+-- Le as a number
+abbrev pub le_of : CommandValue → ℕ
+le_of c = unwrap_or c.le 0
 
 -- ---- what waits for GET RESPONSE
 

@@ -1,5 +1,5 @@
 -- Files, directories, access rules and channels of a card, ETSI TS 102 221 clauses 8 and 9.
-use Rattle.std.specs.Prelude.{ℕ, ◌-◌, ◌*◌, ◌==◌, ◌&&◌, ◌||◌, not, Bool, true, false, nat_lt, nat_eq, if◌then◌else◌, List, [], ◌∷◌, ◌++◌, length, take, find, position, slice_get, Option, Some, None, is_some, is_none, unwrap_or, option_map, option_and_then}
+use Rattle.std.specs.Prelude.{ℕ, ◌-◌, ◌*◌, ◌==◌, ◌&&◌, ◌||◌, Bool, true, false, nat_lt, nat_eq, if◌then◌else◌, List, [], ◌∷◌, ◌++◌, length, take, find, position, slice_get, Option, Some, None, is_some, is_none, unwrap_or, option_map, option_and_then}
 use Rattle.std.specs.List.{list_any, starts_with}
 use Rattle.apdu.specs.Words.{same_bytes, is_empty, has_value, same_number}
 use Rattle.fcp.specs.declared.rows.FileKind.TheVariants.{Directory}
@@ -60,7 +60,7 @@ file_at path card = find (has_path path) card.files
 abbrev pub file_place : List ℕ → CardState → Option ℕ
 file_place path card = position (has_path path) card.files
 
--- the file of a path: none below the application's directory where the card has no USIM
+-- the file of a path for what is no channel: 7FFF, and what stands below it, is there only where the card has a USIM
 abbrev pub file_of : List ℕ → CardState → Option FileState
 file_of path card = if is_in_application path && is_none (usim_of card) then None else file_at path card
 
@@ -92,26 +92,35 @@ fresh_channel number = record { number = number; app = None; current = None }
 abbrev pub current_path : ChannelState → List ℕ
 current_path channel = unwrap_or channel.current []
 
+-- the channel's application is the USIM
+abbrev pub is_on_usim : CardState → ChannelState → Bool
+is_on_usim card channel = is_some channel.app && same_number channel.app (usim_of card)
+
+-- 7FFF, and what stands below it, is the USIM's
+abbrev pub is_visible : CardState → ChannelState → List ℕ → Bool
+is_visible card channel path = if is_in_application path then is_on_usim card channel else true
+
+-- the file of a path as a channel sees it
+abbrev pub file_seen : CardState → ChannelState → List ℕ → Option FileState
+file_seen card channel path = if is_visible card channel path then file_at path card else None
+
+-- where that file stands among the card's files
+abbrev pub place_seen : CardState → ChannelState → List ℕ → Option ℕ
+place_seen card channel path = if is_visible card channel path then file_place path card else None
+
 -- the file that is current on a channel, where that is no directory
 abbrev pub current_file : CardState → ChannelState → Option FileState
-current_file card channel = option_and_then (λ path. file_at path card) channel.current
+current_file card channel = option_and_then (file_seen card channel) channel.current
 
 -- where that file stands among the card's files
 abbrev pub current_place : CardState → ChannelState → Option ℕ
-current_place card channel = option_and_then (λ path. file_place path card) channel.current
+current_place card channel = option_and_then (place_seen card channel) channel.current
 
 -- the directory that is current, or that of the current file
 abbrev pub current_directory : CardState → ChannelState → List ℕ
 current_directory card channel = if is_some (current_file card channel) then directory_of (current_path channel) else current_path channel
 
--- below the application's directory only what belongs to the channel's application is there, which is the USIM
-abbrev pub is_visible : CardState → ChannelState → List ℕ → Bool
-is_visible card channel path =
-    if is_in_application path && not (same_bytes path (application_id ∷ []))
-    then is_some channel.app && same_number channel.app (usim_of card)
-    else true
-
--- the MF, the application's directory where one is set, a file or another directory
+-- the MF, the directory of the channel's application where one is set, a file or another directory
 abbrev pub is_selectable : CardState → ChannelState → List ℕ → Bool
 is_selectable card channel path =
     if is_empty path then true
@@ -130,20 +139,20 @@ never_rule = record { read = Never; update = Never }
 abbrev pub always_rule : Rule
 always_rule = record { read = Always; update = Always }
 
--- the row of a number from 1; a transparent file has one row, its whole content
-abbrev pub row_from_one : ℕ → FileState → Option (List ℕ)
-row_from_one row file = if nat_lt 0 row then slice_get file.rows.rows (row - 1) else None
+-- the record of a number from 1; a transparent file has one, its whole content
+abbrev pub record_at : ℕ → FileState → Option (List ℕ)
+record_at number file = if nat_lt 0 number then slice_get file.rows.rows (number - 1) else None
 
-abbrev pub rule_row : CardState → List ℕ → ArrRef → Option (List ℕ)
-rule_row card path arr = option_and_then (row_from_one arr.row) (file_at (rule_file_path path arr) card)
+abbrev pub rule_record : CardState → List ℕ → ArrRef → Option (List ℕ)
+rule_record card path arr = option_and_then (record_at arr.row) (file_of (rule_file_path path arr) card)
 
-abbrev pub rule_of_row : Option (List ℕ) → Rule
-rule_of_row None = never_rule
-rule_of_row (Some row) = read_rule row
+abbrev pub rule_of_record : Option (List ℕ) → Rule
+rule_of_record None = never_rule
+rule_of_record (Some bytes) = read_rule bytes
 
 abbrev pub rule_of_reference : CardState → List ℕ → Option ArrRef → Rule
 rule_of_reference card path None = always_rule
-rule_of_reference card path (Some arr) = rule_of_row (rule_row card path arr)
+rule_of_reference card path (Some arr) = rule_of_record (rule_record card path arr)
 
 abbrev pub rule_of : CardState → FileState → Rule
 rule_of card file = rule_of_reference card file.path file.arr
@@ -166,13 +175,14 @@ is_met card (Key number) = has_value (λ (k : PinState). k.verified) (key_at num
 
 -- ---- control parameters of what is selected
 
-abbrev pub size_of : Content → ℕ
-size_of content = if is_linear content.kind then content.width * length content.rows else content.width
+-- the bytes of a file
+abbrev pub content_size : Content → ℕ
+content_size content = if is_linear content.kind then content.width * length content.rows else content.width
 
 abbrev pub fields_of_file : FileState → Fcp
 fields_of_file file = record {
   kind = file.rows.kind;
-  size = size_of file.rows;
+  size = content_size file.rows;
   file_id = Some (last_id file.path);
   width = if is_linear file.rows.kind then file.rows.width else 0;
   count = if is_linear file.rows.kind then length file.rows.rows else 0;

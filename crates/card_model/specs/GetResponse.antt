@@ -1,5 +1,5 @@
 -- GET RESPONSE, ETSI TS 102 221 clause 11.1.25, and what waits for it.
-use Rattle.std.specs.Prelude.{ℕ, ◌+◌, ◌==◌, ◌&&◌, not, Bool, if◌then◌else◌, List, length, Option, Some, None}
+use Rattle.std.specs.Prelude.{ℕ, ◌==◌, ◌&&◌, not, Bool, if◌then◌else◌, List, length, Option, Some, None}
 use Rattle.apdu.specs.Values.{CommandValue, ResponseValue}
 use Rattle.apdu.specs.Words.{has_value}
 use Rattle.card_model.specs.Waiting.{WaitingValue}
@@ -8,7 +8,7 @@ use Rattle.card_model.specs.declared.world.ChannelState.{ChannelState}
 use Rattle.card_model.specs.declared.world.Change.{Change}
 use Rattle.card_model.specs.declared.world.CardState.{CardState}
 use Rattle.card_model.specs.Instructions.{is_get_response}
-use Rattle.card_model.specs.Answers.{refuses, length_byte, answers, parameters, wanted_le, with_waiting}
+use Rattle.card_model.specs.Answers.{refuses, other_length, answers, parameters, wanted_le, with_waiting}
 
 abbrev pub waits_on : ChannelState → WaitingValue → Bool
 waits_on channel waiting = waiting.channel == channel.number
@@ -24,7 +24,7 @@ without_waiting card channel row = if is_get_response row && has_waiting_on card
 abbrev pub fetch_waiting : List Change → CardState → List ℕ → Option ℕ → CardState × ResponseValue
 fetch_waiting changes card bytes None = refuses card 0x6700
 fetch_waiting changes card bytes (Some le) =
-    if not (le == length bytes) then refuses card (0x6C00 + length_byte (length bytes))
+    if not (le == length bytes) then refuses card (other_length (length bytes))
     else answers changes (with_waiting card None) bytes
 
 abbrev pub get_waiting : List Change → CardState → ChannelState → CommandValue → Option WaitingValue → CardState × ResponseValue

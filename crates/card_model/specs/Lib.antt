@@ -3,6 +3,7 @@ pub mod Waiting
 pub mod Card
 pub mod Instructions
 pub mod Answers
+pub mod Parts
 pub mod Select
 pub mod GetResponse
 pub mod Read

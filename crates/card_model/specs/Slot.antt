@@ -11,6 +11,16 @@ use Rattle.card_model.specs.declared.slot.WorldRefusal.{WorldRefusal}
 use Rattle.card_model.specs.declared.slot.WorldRefusal.TheVariants.{SlotEmpty, SlotFull, ArmFull, NoImage, NoChange}
 use Rattle.card_model.specs.Step.{step, after_event, after_reset, card_inside}
 
+-- ---- what is told
+
+-- what is told stays told, and what is not told never comes to be
+abbrev pub StaysTold : {X : Type 0} → Option X → Option X → Type 0
+StaysTold old new = is_some new ≡ is_some old
+
+-- where the first is told, so is the second
+abbrev pub ToldWith : {X Y : Type 0} → Option X → Option Y → Type 0
+ToldWith first second = IsTrue (is_some first) → IsTrue (is_some second)
+
 -- ---- exchanges and resets
 
 -- the slot holds a card, which made this step to the new world and gave this response

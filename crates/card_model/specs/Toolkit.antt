@@ -1,12 +1,12 @@
 -- STATUS, TERMINAL PROFILE, FETCH and TERMINAL RESPONSE, ETSI TS 102 221 clauses 11.1.2 and 11.2, TS 102 223 clause 6.
-use Rattle.std.specs.Prelude.{ℕ, ◌+◌, ◌==◌, ◌||◌, not, true, false, if◌then◌else◌, List, [], ◌∷◌, ◌++◌, length, drop, position, slice_set, Option, Some, None}
+use Rattle.std.specs.Prelude.{ℕ, ◌==◌, ◌||◌, not, true, false, if◌then◌else◌, List, [], ◌∷◌, ◌++◌, length, drop, position, slice_set, Option, Some, None}
 use Rattle.apdu.specs.Values.{CommandValue, ResponseValue}
 use Rattle.apdu.specs.Words.{is_empty}
 use Rattle.card_model.specs.declared.world.FileState.{FileState}
 use Rattle.card_model.specs.declared.world.Change.{Change}
 use Rattle.card_model.specs.declared.world.CardState.{CardState}
 use Rattle.card_model.specs.Card.{has_path, change_command, first_armed}
-use Rattle.card_model.specs.Answers.{refuses, length_byte, answer, succeeds, parameters, wanted_le}
+use Rattle.card_model.specs.Answers.{refuses, other_length, answer, succeeds, parameters, wanted_le}
 
 -- ---- STATUS
 
@@ -49,7 +49,7 @@ with_change card change = record card {
 -- Le not the length: 6CXX
 abbrev pub fetch_with_le : CardState → Change → ℕ → CardState × ResponseValue
 fetch_with_le card change le =
-    if not (le == length (change_command change)) then refuses card (0x6C00 + length_byte (length (change_command change)))
+    if not (le == length (change_command change)) then refuses card (other_length (length (change_command change)))
     else (with_change card change, answer (change_command change) 0x9000)
 
 -- nothing armed, or awaiting: 6985

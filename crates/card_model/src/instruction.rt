@@ -21,6 +21,13 @@ pub enum Instruction {
     TerminalResponse,
 }
 
+/// What a READ or an UPDATE is of: the bytes of a transparent file from an offset on, or a record of a linear one.
+#[derive(Clone, Copy, Debug, PartialEq, Eq)]
+pub enum Part {
+    Binary,
+    Record,
+}
+
 impl Instruction {
     /// The instruction of this byte; none where the table has no row for it.
     pub fn from_byte(ins: u8) -> Option<Instruction>

@@ -6,32 +6,35 @@ ghost use Rattle.std.specs.Result.{IsErr};
 ghost use Rattle.card_model.specs.Room.{most_files};
 
 use crate::{ChannelState, FileState};
-use apdu::Memory;
+use apdu::{Memory, Sequence};
 use arrayvec::ArrayVec;
 use std::alloc::Global;
+use std::default::MadeWith;
 use std::marker::Model;
 
-/// The open channels of a card, at most twenty (ETSI TS 102 221 clause 8.7). Contracts see the list.
+/// A list with room for N items, which lie in the list itself. Contracts see the list.
 #[derive(Drop)]
-pub struct ChannelList {
-    items: ArrayVec<ChannelState, 20>,
+pub struct FixedList<T, const N: usize> {
+    items: ArrayVec<T, N>,
 }
 
-impl Model for ChannelList {
+impl<T, const N: usize> Model for FixedList<T, N> {
     ghost use Rattle.std.specs.Prelude.{List};
-    ghost use Rattle.card_model.specs.declared.world.ChannelState.{ChannelState};
+    ghost use Rattle.std.specs.Coded.{coded_list};
 
-    ghost Value = { List ChannelState };
+    ghost Value = { List T };
+
+    ghost coded = { coded_list T.code };
 
     ghost view = { λ l. l.items.items };
 }
 
-impl ChannelList {
-    pub fn new() -> ChannelList
+impl<T: MadeWith<()> + Drop, const N: usize> FixedList<T, N> {
+    pub fn new() -> FixedList<T, N>
         ensures { result ≡ [] }
     {
-        ChannelList {
-            items: ArrayVec::new(),
+        FixedList {
+            items: ArrayVec::new_in(()),
         }
     }
 
@@ -41,27 +44,27 @@ impl ChannelList {
         self.items.len()
     }
 
-    pub fn as_slice(&self) -> &[ChannelState]
+    pub fn as_slice(&self) -> &[T]
         ensures { result.now ≡ self.now }
     {
         self.items.as_slice()
     }
 
-    pub fn get(&self, at: usize) -> Option<&ChannelState>
+    pub fn get(&self, at: usize) -> Option<&T>
         ensures value { option_copied result ≡ slice_get self.now at }
         ensures within { OnSome result (at < length self.now) }
     {
         self.items.as_slice().get(at)
     }
 
-    pub fn set(&mut self, at: usize, channel: ChannelState)
+    pub fn set(&mut self, at: usize, item: T)
         requires { at < length self.old }
-        ensures { self.new ≡ slice_set self.old at channel }
+        ensures { self.new ≡ slice_set self.old at item }
     {
-        self.items.as_mut_slice()[at] = channel;
+        self.items.as_mut_slice()[at] = item;
     }
 
-    /// Takes a channel out; those behind it move up.
+    /// Takes an item out; those behind it move up.
     pub fn remove(&mut self, at: usize)
         requires { at < length self.old }
         ensures { self.new ≡ remove self.old at }
@@ -69,63 +72,7 @@ impl ChannelList {
         let _ = self.items.remove(at);
     }
 
-    /// Closes every channel.
-    pub fn clear(&mut self)
-        ensures { self.new ≡ [] }
-    {
-        self.items.clear();
-    }
-
-    /// Puts a channel at the end. There is no room past twenty.
-    pub fn push(&mut self, channel: ChannelState) -> Result<(), Memory>
-        ensures ok { OnOk result (self.new ≡ self.old ++ channel ∷ []) }
-        ensures err { OnErr result (self.new ≡ self.old) }
-        ensures room { length self.old < 20 → IsOk result }
-        ensures full { 20 ≤ length self.old → IsErr result }
-    {
-        match self.items.try_push(channel) {
-            Ok(()) => Ok(()),
-            Err(_) => Err(Memory),
-        }
-    }
-}
-
-/// The numbers of the armed changes of a card, at most 64. Contracts see the list.
-#[derive(Drop)]
-pub struct ArmedList {
-    items: ArrayVec<u8, 64>,
-}
-
-impl Model for ArmedList {
-    ghost use Rattle.std.specs.Prelude.{List, ℕ};
-
-    ghost Value = { List ℕ };
-
-    ghost view = { λ l. l.items.items };
-}
-
-impl ArmedList {
-    pub fn new() -> ArmedList
-        ensures { result ≡ [] }
-    {
-        ArmedList {
-            items: ArrayVec::new(),
-        }
-    }
-
-    pub fn len(&self) -> usize
-        ensures { result ≡ length self.now }
-    {
-        self.items.len()
-    }
-
-    pub fn as_slice(&self) -> &[u8]
-        ensures { result.now ≡ self.now }
-    {
-        self.items.as_slice()
-    }
-
-    /// Takes the first number out, where there is one.
+    /// Takes the first item out, where there is one.
     pub fn remove_first(&mut self)
         ensures { self.new ≡ drop 1 self.old }
     {
@@ -134,19 +81,32 @@ impl ArmedList {
         }
     }
 
-    /// Puts a number at the end. There is no room past 64.
-    pub fn push(&mut self, change: u8) -> Result<(), Memory>
-        ensures ok { OnOk result (self.new ≡ self.old ++ change ∷ []) }
-        ensures err { OnErr result (self.new ≡ self.old) }
-        ensures room { length self.old < 64 → IsOk result }
-        ensures full { 64 ≤ length self.old → IsErr result }
+    /// Takes every item out.
+    pub fn clear(&mut self)
+        ensures { self.new ≡ [] }
     {
-        match self.items.try_push(change) {
+        self.items.clear();
+    }
+
+    /// Puts an item at the end. There is no room past N.
+    pub fn push(&mut self, item: T) -> Result<(), Memory>
+        ensures ok { OnOk result (self.new ≡ self.old ++ item ∷ []) }
+        ensures err { OnErr result (self.new ≡ self.old) }
+        ensures room { length self.old < N → IsOk result }
+        ensures full { N ≤ length self.old → IsErr result }
+    {
+        match self.items.try_push(item) {
             Ok(()) => Ok(()),
             Err(_) => Err(Memory),
         }
     }
 }
+
+/// The open channels of a card, at most twenty (ETSI TS 102 221 clause 8.7).
+pub type ChannelList = FixedList<ChannelState, 20>;
+
+/// The numbers of the armed changes of a card.
+pub type ArmedList = FixedList<u8, 64>;
 
 // The most files that a card can come to have: 64 of its own, and 64 of each of 64 changes.
 const MOST_FILES: usize = 4160;
@@ -180,6 +140,15 @@ impl CardFiles {
         Ok(CardFiles {
             items: Vec::with_capacity(alloc, MOST_FILES)?,
         })
+    }
+
+    /// The list of these files.
+    pub fn from_sequence(files: Sequence<FileState>) -> Result<CardFiles, Memory>
+        ensures { IfOk result (λ list. list ≡ files) }
+    {
+        let mut items = files.into_vec();
+        items.reserve(MOST_FILES)?;
+        Ok(CardFiles { items })
     }
 
     pub fn len(&self) -> usize

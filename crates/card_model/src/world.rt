@@ -76,7 +76,8 @@ pub struct PinState {
 }
 
 /// A logical channel: its application, an index among the card's, and its current file or
-/// directory. None is the master file, and the path 7FFF alone is the application's directory.
+/// directory. None is the master file, and the path 7FFF alone is the application's directory,
+/// or the USIM's file of that path.
 #[derive(Default, Drop)]
 pub struct ChannelState {
     pub number: u8,

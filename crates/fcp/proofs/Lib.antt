@@ -1,3 +1,3 @@
-pub mod Kept
+pub mod Described
 pub mod ReadBack
-pub mod Widths
+pub mod Buffer

@@ -1,5 +1,5 @@
 -- What a file of a card holds, ETSI TS 102 221 clause 8.2.2.
-use Rattle.std.specs.Prelude.{◌≡◌, ◌≤◌, ◌<◌, ◌^◌, ℕ, Bool, true, false, List, [], ◌∷◌, length, slice_set, All}
+use Rattle.std.specs.Prelude.{◌≡◌, ◌≤◌, ◌<◌, ◌^◌, ℕ, ◌==◌, Bool, true, false, List, [], ◌∷◌, length, slice_set, All}
 use Rattle.fcp.specs.declared.rows.FileKind.{FileKind}
 use Rattle.fcp.specs.declared.rows.FileKind.TheVariants.{Transparent, Linear, Directory}
 
@@ -43,7 +43,10 @@ abbrev pub first_row : List (List ℕ) → List ℕ
 first_row [] = []
 first_row (row ∷ rows) = row
 
--- the row is so wide
+-- the row is so wide, as a test and as a fact
+abbrev pub has_width : ℕ → List ℕ → Bool
+has_width width row = length row == width
+
 abbrev pub HasWidth : ℕ → List ℕ → Type 0
 HasWidth width row = length row ≡ width
 

@@ -1,7 +1,7 @@
 -- File control parameters, ETSI TS 102 221 clause 11.1.1.3, and access rules in expanded form, clause 9.2.
 use Rattle.std.specs.Prelude.{◌≡◌, ◌≤◌, ℕ, ◌+◌, ◌*◌, ◌%◌, ◌==◌, ◌&&◌, not, Bool, true, false, nat_le, if◌then◌else◌, List, [], ◌∷◌, ◌++◌, length, Option, Some, None, is_none, IsSome, slice_index, ◌^◌, Result, Ok, Err}
 use Rattle.std.specs.Borrow.{Bor}
-use Rattle.apdu.specs.Words.{pair_value, two_bytes, is_bit, is_one_of, is_between, same_bytes}
+use Rattle.apdu.specs.Words.{◌>>=◌, pair_value, two_bytes, is_bit, is_one_of, is_between, same_bytes}
 use Rattle.tlv.specs.declared.error.TlvError.{TlvError}
 use Rattle.tlv.specs.Objects.{Part, Parts, ber_parts, part_bytes}
 use Rattle.fcp.specs.declared.rows.FileKind.{FileKind}
@@ -14,7 +14,7 @@ use Rattle.fcp.specs.declared.rule.Rule.{Rule}
 use Rattle.fcp.specs.declared.control.FcpError.{FcpError}
 use Rattle.fcp.specs.declared.control.FcpError.TheVariants.{Tlv, Missing, Bad}
 use Rattle.fcp.specs.Content.{is_transparent, is_directory}
-use Rattle.fcp.specs.Objects.{Objects, objects_read}
+use Rattle.fcp.specs.Objects.{Objects, objects_of}
 
 -- ---- writing
 
@@ -125,12 +125,6 @@ missing_of kind o =
     else if is_transparent kind && is_none o.size then Some 0x80
     else None
 
--- steps in order, of which the first refusal is the whole's
-infixl 10 ◌>>=◌
-abbrev pub ◌>>=◌ : {A B E : Type 0} → Result A E → (A → Result B E) → Result B E
-Ok x >>= next = next x
-Err error >>= next = Err error
-
 abbrev pub or_bad : {A : Type 0} → ℕ → Option A → Result A FcpError
 or_bad tag None = Err (Bad tag)
 or_bad tag (Some x) = Ok x
@@ -159,19 +153,16 @@ fcp_of_objects o = do
   kind ← or_bad 0x82 (kind_of descriptor)
   unless_missing (missing_of kind o) (fields_of kind descriptor o)
 
-abbrev pub tlv_error : {A : Type 0} → Result A TlvError → Result A FcpError
-tlv_error (Ok x) = Ok x
-tlv_error (Err error) = Err (Tlv error)
-
 -- a template is read to its end before anything is looked for in it
-abbrev pub template_of : Parts → Result Fcp FcpError
-template_of read = do
-  o ← tlv_error (objects_read read)
-  fcp_of_objects o
+abbrev pub fcp_of_template : Parts → Result Fcp FcpError
+fcp_of_template read = elim read.damage [
+  | Some error ↦ Err (Tlv error)
+  | None ↦ fcp_of_objects (objects_of read.parts)
+]
 
 -- the first object is the template; what follows it is not read
 abbrev pub fcp_of_parts : List Part → Option TlvError → Result Fcp FcpError
-fcp_of_parts (p ∷ rest) damage = if p.tag == 0x62 then template_of (ber_parts p.value) else Err (Missing 0x62)
+fcp_of_parts (p ∷ rest) damage = if p.tag == 0x62 then fcp_of_template (ber_parts p.value) else Err (Missing 0x62)
 fcp_of_parts [] (Some error) = Err (Tlv error)
 fcp_of_parts [] None = Err (Missing 0x62)
 

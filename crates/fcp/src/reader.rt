@@ -1,8 +1,8 @@
 // Control parameters read from a card's answer.
-ghost use Rattle.std.specs.Prelude.{◌≡◌};
+ghost use Rattle.std.specs.Prelude.{◌≡◌, IfOk};
 ghost use Rattle.std.specs.Option.{option_copied};
 ghost use Rattle.tlv.specs.Objects.{ber_parts};
-ghost use Rattle.fcp.specs.Control.{read_fcp, template_of, fcp_of_objects, fields_of, kind_of, shape_of, rows_shape, id_of, active_of, number_of, size_of, reference_of, missing_of};
+ghost use Rattle.fcp.specs.Control.{read_fcp, Describes, fcp_of_template, fcp_of_objects, fields_of, kind_of, shape_of, rows_shape, id_of, active_of, number_of, size_of, reference_of, missing_of};
 
 use crate::objects::FoundObjects;
 use crate::{ArrRef, Fcp, FcpError, FileKind};
@@ -11,7 +11,8 @@ use tlv::BerReader;
 /// Reads a template of control parameters. What stands behind it is not read.
 #[tactic(auto, unfolding(crate::specs::Control::read_fcp))]
 pub fn read_fcp(bytes: &[u8]) -> Result<Fcp, FcpError>
-    ensures { result ≡ read_fcp bytes.now }
+    ensures value { result ≡ read_fcp bytes.now }
+    ensures described { IfOk result (λ fcp. Describes fcp.kind fcp) }
 {
     match BerReader::new(bytes).next() {
         Ok(Some((0x62, template))) => read_template(template),
@@ -21,7 +22,7 @@ pub fn read_fcp(bytes: &[u8]) -> Result<Fcp, FcpError>
 }
 
 fn read_template(template: &[u8]) -> Result<Fcp, FcpError>
-    ensures { result ≡ template_of (ber_parts template.now) }
+    ensures { result ≡ fcp_of_template (ber_parts template.now) }
 {
     let objects = FoundObjects::of(template).map_err(FcpError::Tlv)?;
     fcp_of_objects(&objects)

@@ -1,6 +1,7 @@
 // Control parameters, rules and rows, by worked values.
 
 use super::*;
+use apdu::Bytes;
 use std::process::Abort;
 use std::test::Fail;
 use tlv::TlvError;
@@ -252,6 +253,17 @@ fn keeps_rows(rt: HostRuntime) -> Result<(), Fail> {
     assert!(rt; linear.count() == 2);
     assert!(rt; linear.row(0) == Some([5, 6].as_slice()));
     assert!(rt; linear.row(1) == Some([3, 4].as_slice()));
+    let rows = [
+        Bytes::from_slice(rt.alloc(), &[1, 2])?,
+        Bytes::from_slice(rt.alloc(), &[3, 4])?,
+    ];
+    let both = Rows::from_rows(rt.alloc(), 2, &rows)?;
+    assert!(rt; both.row(1) == Some([3, 4].as_slice()));
+    assert!(rt; both.row(2) == None);
+    let mut narrow = Rows::linear(rt.alloc(), 0);
+    narrow.push(&[])?;
+    narrow.push(&[])?;
+    assert!(rt; narrow.count() == 2);
     let mut transparent = Rows::transparent(rt.alloc(), &[1, 2, 3])?;
     transparent.set(0, &[4, 5, 6]);
     assert!(rt; transparent.width() == 3);

@@ -18,7 +18,7 @@ pub fn write_fcp(fcp: &Fcp, aid: &[u8]) -> ArrayVec<u8, 64>
 {
     let template = template(fcp, aid);
     let mut out = ArrayVec::new();
-    put(&mut out, 0x62, template.as_slice());
+    put_object(&mut out, 0x62, template.as_slice());
     out
 }
 
@@ -31,14 +31,14 @@ fn template(fcp: &Fcp, aid: &[u8]) -> ArrayVec<u8, 62>
     let mut out = ArrayVec::new();
     put_descriptor(&mut out, fcp.kind, fcp.width, fcp.count);
     put_identity(&mut out, fcp.file_id, aid);
-    put(&mut out, 0x8A, &[if fcp.active { 5 } else { 4 }]);
+    put_object(&mut out, 0x8A, &[if fcp.active { 5 } else { 4 }]);
     put_reference(&mut out, fcp.arr);
     put_size(&mut out, fcp.kind, fcp.size);
     out
 }
 
 /// Puts an object of a short value at the end, where there is room.
-fn put<const N: usize>(out: &mut ArrayVec<u8, N>, tag: u8, value: &[u8])
+fn put_object<const N: usize>(out: &mut ArrayVec<u8, N>, tag: u8, value: &[u8])
     requires short { length value.now ≤ 127 }
     requires room { length out.old.items + 2 + length value.now ≤ N }
     ensures value { out.new.items ≡ out.old.items ++ part_bytes tag value.now }
@@ -53,13 +53,13 @@ fn put_descriptor(out: &mut ArrayVec<u8, 62>, kind: FileKind, width: u16, count:
     ensures len { length out.new.items ≤ length out.old.items + 7 }
 {
     match kind {
-        FileKind::Transparent => put(out, 0x82, &[0x41, 0x21]),
-        FileKind::Linear => put(
+        FileKind::Transparent => put_object(out, 0x82, &[0x41, 0x21]),
+        FileKind::Linear => put_object(
             out,
             0x82,
             &[0x42, 0x21, (width / 256) as u8, (width % 256) as u8, count],
         ),
-        FileKind::Directory => put(out, 0x82, &[0x78, 0x21]),
+        FileKind::Directory => put_object(out, 0x82, &[0x78, 0x21]),
     }
 }
 
@@ -70,8 +70,8 @@ fn put_identity(out: &mut ArrayVec<u8, 62>, file_id: Option<u16>, aid: &[u8])
     ensures len { length out.new.items ≤ length out.old.items + 18 }
 {
     match file_id {
-        Some(id) => put(out, 0x83, &[(id / 256) as u8, (id % 256) as u8]),
-        None => put(out, 0x84, aid),
+        Some(id) => put_object(out, 0x83, &[(id / 256) as u8, (id % 256) as u8]),
+        None => put_object(out, 0x84, aid),
     }
 }
 
@@ -81,7 +81,7 @@ fn put_reference(out: &mut ArrayVec<u8, 62>, arr: Option<ArrRef>)
     ensures len { length out.new.items ≤ length out.old.items + 5 }
 {
     if let Some(ArrRef { file_id, row }) = arr {
-        put(
+        put_object(
             out,
             0x8B,
             &[(file_id / 256) as u8, (file_id % 256) as u8, row],
@@ -95,7 +95,7 @@ fn put_size(out: &mut ArrayVec<u8, 62>, kind: FileKind, size: u16)
     ensures len { length out.new.items ≤ length out.old.items + 4 }
 {
     match kind {
-        FileKind::Transparent | FileKind::Linear => put(
+        FileKind::Transparent | FileKind::Linear => put_object(
             out,
             0x80,
             &[(size / 256) as u8, (size % 256) as u8],

@@ -1,13 +1,12 @@
 -- A command that was written is read back.
-use Rattle.std.proofs.Common.{◌≡◌, ◌≢◌, ℕ, suc, zero, ◌+◌, ◌*◌, ◌/◌, ◌%◌, ◌<◌, ◌≤◌, Bool, true, false, ◌&&◌, ◌==◌, nat_le, nat_lt, List, [], ◌∷◌, ◌++◌, length, flat_map, Option, Some, None, option_map, Ok, refl, ap, sym, ◌∙◌, arith, append-nil, length-append, lit<}
+use Rattle.std.proofs.Common.{◌≡◌, ◌≢◌, ℕ, suc, zero, ◌+◌, ◌*◌, ◌/◌, ◌%◌, ◌<◌, ◌≤◌, Bool, true, false, ◌&&◌, ◌==◌, nat_le, nat_lt, if◌then◌else◌, List, [], ◌∷◌, ◌++◌, length, flat_map, Option, Some, None, option_map, Ok, refl, ap, sym, ◌∙◌, arith, append-nil, length-append, lit<}
 use Rattle.std.specs.List.{list_all}
-use Rattle.std.proofs.Math.Seq.{take-append_seam, drop-append_seam}
+use Rattle.std.proofs.lemmas.Bool.{and_parts, true≢false}
 use Rattle.std.proofs.lemmas.Bool.Decides.{nat_tests}
 use Rattle.apdu.specs.Words.{pair_value, two_bytes}
-use Rattle.tlv.specs.declared.object.TagByte.{TagByte}
-use Rattle.tlv.specs.declared.object.TagByte.TheVariants.{Begins}
-use Rattle.tlv.specs.Objects.{Part, Parts, with_part, stopped, parts_from, ber_tag, simple_tag, simple_parts, part_bytes}
-use Rattle.refresh_cmd.specs.Proactive.{master_file, path_bytes, with_details, proactive_bytes, command_of, is_below_master, ids_of, split_paths, is_good_path, good_paths, full_paths, paths_of, if_counted, with_list, proactive_parts, proactive_object, read_proactive}
+use Rattle.tlv.specs.Objects.{Parts, with_part, stopped, ber_tag, simple_tag, simple_parts, part_bytes}
+use Rattle.tlv.proofs.Written.{parts_at-written, parts_at-last}
+use Rattle.refresh_cmd.specs.Proactive.{master_file, path_bytes, proactive_bytes, command_of, is_below_master, ids_of, split_paths, is_good_path, good_paths, full_paths, paths_of, if_counted, with_list, first_byte, proactive_parts, proactive_object, read_proactive}
 use Rattle.refresh_cmd.specs.Lists.{cut_bytes, with_id_seen, onto}
 use Rattle.refresh_cmd.proofs.Cuts.{other-id}
 
@@ -38,19 +37,8 @@ none-before : (c : Option (List ℕ × List (List ℕ))) → before_seen [] c �
 none-before None = refl
 none-before (Some (before, paths)) = refl
 
-true-and-false : true ≡ false → ⊥
-true-and-false e = cc
-
-and-left : (a b : Bool) → (a && b) ≡ true → a ≡ true
-and-left true b h = refl
-and-left false b h = h
-
-and-right : (a b : Bool) → (a && b) ≡ true → b ≡ true
-and-right true b h = h
-and-right false b h = absurd (true-and-false (sym h))
-
 below-head : (id : ℕ) (ids : List ℕ) → is_below_master (id ∷ ids) ≡ true → id ≢ master_file
-below-head id ids h = λ (e : id ≡ master_file). true-and-false (sym h ∙ ap (λ (n : ℕ). is_below_master (n ∷ ids)) e)
+below-head id ids h = λ (e : id ≡ master_file). true≢false (sym h ∙ ap (λ (n : ℕ). is_below_master (n ∷ ids)) e)
 
 below-tail : (id : ℕ) (ids : List ℕ) → is_below_master (id ∷ ids) ≡ true → is_below_master ids ≡ true
 below-tail id ids h = rw (other-id id (below-head id ids h)) at h
@@ -66,8 +54,8 @@ pub cut-paths : (paths : List (List ℕ)) → list_all is_below_master paths ≡
 cut-paths [] h = refl
 cut-paths (path ∷ paths) h =
     cut-two 0x3F 0x00 (flat_map two_bytes path ++ flat_map path_bytes paths)
-    ∙ (ap (with_id_seen master_file) (cut-ids path (flat_map path_bytes paths) (and-left (is_below_master path) (list_all is_below_master paths) h)
-    ∙ ap (before_seen path) (cut-paths paths (and-right (is_below_master path) (list_all is_below_master paths) h)))
+    ∙ (ap (with_id_seen master_file) (cut-ids path (flat_map path_bytes paths) (and_parts (is_below_master path) (list_all is_below_master paths) h).0
+    ∙ ap (before_seen path) (cut-paths paths (and_parts (is_below_master path) (list_all is_below_master paths) h).1))
     ∙ rw append-nil refl)
 
 full-is : (bytes : List ℕ) → full_paths bytes ≡ onto [] (cut_bytes bytes)
@@ -78,44 +66,27 @@ full-is bytes = elim (ids_of bytes) as (λ (ids : Option (List ℕ)). (elim ids 
 
 -- ---- the objects
 
-pub parts-front : (tag_of : ℕ → TagByte) (fuel at byte tag : ℕ) (value rest : List ℕ) → tag_of byte ≡ Begins tag → length value < 0x80 →
-    parts_from tag_of (suc fuel) at (byte ∷ length value ∷ (value ++ rest)) ≡ with_part tag value (parts_from tag_of fuel (at + 2 + length value) rest)
-parts-front tag_of fuel at byte tag value rest e short =
-    let small : nat_lt (length value) 0x80 ≡ true = grind (arith, nat_tests) in
-    let whole : nat_lt (length (value ++ rest)) (length value) ≡ false = grind (arith, nat_tests, length-append value rest) in
-    rw e (rw small (rw whole (rw (take-append_seam value rest, drop-append_seam value rest) refl)))
+first_byte-if : (short : Bool) (tag : ℕ) (value other : List ℕ) → first_byte (if short then tag ∷ value else tag ∷ other) ≡ tag
+first_byte-if true tag value other = refl
+first_byte-if false tag value other = refl
 
-parts-end : (tag_of : ℕ → TagByte) (fuel at : ℕ) → parts_from tag_of fuel at [] ≡ stopped None
-parts-end tag_of zero at = refl
-parts-end tag_of (suc fuel) at = refl
+reads-object : (value : List ℕ) → read_proactive (part_bytes 0xD0 value) ≡ proactive_parts (simple_parts value)
+reads-object value = rw (first_byte-if (nat_lt (length value) 0x80) 0xD0 (length value ∷ value) (0x81 ∷ length value ∷ value)) (
+    ap (λ (read : Parts). proactive_object read.parts read.damage) (parts_at-last ber_tag 0xD0 0xD0 0 value refl))
 
-pub parts-last : (tag_of : ℕ → TagByte) (fuel at byte tag : ℕ) (value : List ℕ) → tag_of byte ≡ Begins tag → length value < 0x80 →
-    parts_from tag_of (suc fuel) at (byte ∷ length value ∷ value) ≡ with_part tag value (stopped None)
-parts-last tag_of fuel at byte tag value e short =
-    ap (λ (bytes : List ℕ). parts_from tag_of (suc fuel) at (byte ∷ length value ∷ bytes)) (sym (append-nil value))
-    ∙ (parts-front tag_of fuel at byte tag value [] e short
-    ∙ ap (with_part tag value) (parts-end tag_of fuel (at + 2 + length value)))
+abbrev details : (number kind qualifier : ℕ) → List ℕ
+details number kind qualifier = number ∷ kind ∷ qualifier ∷ []
+
+abbrev identities : List ℕ
+identities = 0x81 ∷ 0x82 ∷ []
+
+parts-with : (number kind qualifier : ℕ) (list : List ℕ) → simple_parts (part_bytes 0x81 (details number kind qualifier) ++ part_bytes 0x82 identities ++ part_bytes 0x92 list) ≡ with_part 0x01 (details number kind qualifier) (with_part 0x02 identities (with_part 0x12 list (stopped None)))
+parts-with number kind qualifier list =
+    parts_at-written simple_tag 0x81 0x01 0 (details number kind qualifier) (part_bytes 0x82 identities ++ part_bytes 0x92 list) refl
+    ∙ ap (with_part 0x01 (details number kind qualifier)) (parts_at-written simple_tag 0x82 0x02 5 identities (part_bytes 0x92 list) refl
+    ∙ ap (with_part 0x02 identities) (parts_at-last simple_tag 0x92 0x12 9 list refl))
 
 -- ---- the whole
-
-abbrev pub two_parts : (number kind qualifier : ℕ) → List Part → List Part
-two_parts number kind qualifier more =
-    record { tag = 0x01; value = number ∷ kind ∷ qualifier ∷ [] } ∷ record { tag = 0x02; value = 0x81 ∷ 0x82 ∷ [] } ∷ more
-
-parts-without : (number kind qualifier : ℕ) → simple_parts (0x81 ∷ 3 ∷ number ∷ kind ∷ qualifier ∷ 0x82 ∷ 2 ∷ 0x81 ∷ 0x82 ∷ []) ≡ record { parts = two_parts number kind qualifier []; damage = None }
-parts-without number kind qualifier = refl
-
-parts-with : (number kind qualifier : ℕ) (list : List ℕ) → length list < 0x80 →
-    simple_parts (0x81 ∷ 3 ∷ number ∷ kind ∷ qualifier ∷ 0x82 ∷ 2 ∷ 0x81 ∷ 0x82 ∷ 0x92 ∷ length list ∷ list)
-    ≡ record { parts = two_parts number kind qualifier (record { tag = 0x12; value = list } ∷ []); damage = None }
-parts-with number kind qualifier list short =
-    parts-front simple_tag (length (3 ∷ number ∷ kind ∷ qualifier ∷ 0x82 ∷ 2 ∷ 0x81 ∷ 0x82 ∷ 0x92 ∷ length list ∷ list)) 0 0x81 0x01 (number ∷ kind ∷ qualifier ∷ [])
-    (0x82 ∷ 2 ∷ 0x81 ∷ 0x82 ∷ 0x92 ∷ length list ∷ list) refl (lit< tt)
-    ∙ ap (with_part 0x01 (number ∷ kind ∷ qualifier ∷ [])) (
-    parts-front simple_tag (length (number ∷ kind ∷ qualifier ∷ 0x82 ∷ 2 ∷ 0x81 ∷ 0x82 ∷ 0x92 ∷ length list ∷ list)) 5 0x82 0x02 (0x81 ∷ 0x82 ∷ [])
-    (0x92 ∷ length list ∷ list) refl (lit< tt)
-    ∙ ap (with_part 0x02 (0x81 ∷ 0x82 ∷ [])) (
-    parts-last simple_tag (length (kind ∷ qualifier ∷ 0x82 ∷ 2 ∷ 0x81 ∷ 0x82 ∷ 0x92 ∷ length list ∷ list)) 9 0x92 0x12 list refl short))
 
 good-list : (paths : List (List ℕ)) → length paths ≤ 8 → list_all is_good_path paths ≡ true → good_paths ([], paths) ≡ Some paths
 good-list paths few good = let e : nat_le (length paths) 64 ≡ true = grind (arith, nat_tests) in rw good (rw e refl)
@@ -127,39 +98,11 @@ reads-list paths few good below =
     ap (if_counted (length paths)) (full-is (flat_map path_bytes paths) ∙ (ap (onto []) (cut-paths paths below) ∙ good-list paths few good))
     ∙ rw same refl
 
-at-most-three : (path : List ℕ) → is_good_path path ≡ true → length path ≤ 3
-at-most-three path good = let h : nat_le (length path) 3 ≡ true = and-right (nat_le 1 (length path)) (nat_le (length path) 3) good in grind (arith, nat_tests)
-
-length-ids : (ids : List ℕ) → length (flat_map two_bytes ids) ≡ 2 * length ids
-length-ids [] = refl
-length-ids (id ∷ ids) = omega (arith, length-ids ids)
-
-short-paths : (paths : List (List ℕ)) → list_all is_good_path paths ≡ true → length (flat_map path_bytes paths) ≤ 8 * length paths
-short-paths [] good = omega arith
-short-paths (path ∷ paths) good =
-    let h : length path ≤ 3 = at-most-three path (and-left (is_good_path path) (list_all is_good_path paths) good) in
-    omega (arith, length-append (flat_map two_bytes path) (flat_map path_bytes paths), length-ids path, short-paths paths (and-right (is_good_path path) (list_all is_good_path paths) good))
-
-part-short : (tag : ℕ) (value : List ℕ) → length value < 0x80 → part_bytes tag value ≡ tag ∷ length value ∷ value
-part-short tag value short = let e : nat_lt (length value) 0x80 ≡ true = grind (arith, nat_tests) in rw e refl
-
-reads-object : (value : List ℕ) → length value < 0x80 → read_proactive (0xD0 ∷ length value ∷ value) ≡ proactive_parts (simple_parts value)
-reads-object value short = ap (λ (read : Parts). proactive_object read.parts read.damage) (parts-last ber_tag (length (length value ∷ value)) 0 0xD0 0xD0 value refl short)
-
-reads-written : (number kind qualifier : ℕ) (list : List ℕ) (paths : List (List ℕ)) → length list < 0x70 → paths_of list ≡ Some paths →
-    read_proactive (with_details number kind qualifier (0x92 ∷ length list ∷ list))
-    ≡ Ok (command_of number kind qualifier paths)
-reads-written number kind qualifier list paths short e =
-    ap read_proactive (part-short 0xD0 (0x81 ∷ 3 ∷ number ∷ kind ∷ qualifier ∷ 0x82 ∷ 2 ∷ 0x81 ∷ 0x82 ∷ 0x92 ∷ length list ∷ list) (omega arith))
-    ∙ (reads-object (0x81 ∷ 3 ∷ number ∷ kind ∷ qualifier ∷ 0x82 ∷ 2 ∷ 0x81 ∷ 0x82 ∷ 0x92 ∷ length list ∷ list) (omega arith)
-    ∙ (ap proactive_parts (parts-with number kind qualifier list (omega arith))
-    ∙ ap (with_list number kind qualifier) e))
-
 pub reads_back : (number kind qualifier : ℕ) (paths : List (List ℕ)) → length paths ≤ 8 → list_all is_good_path paths ≡ true → list_all is_below_master paths ≡ true →
     read_proactive (proactive_bytes number kind qualifier paths) ≡ Ok (command_of number kind qualifier paths)
 reads_back number kind qualifier [] few good below = refl
 reads_back number kind qualifier (path ∷ paths) few good below =
     let list : List ℕ = length (path ∷ paths) ∷ flat_map path_bytes (path ∷ paths) in
-    let short : length list < 0x70 = omega (arith, short-paths (path ∷ paths) good) in
-    ap (λ (part : List ℕ). read_proactive (with_details number kind qualifier part)) (part-short 0x92 list (omega arith))
-    ∙ reads-written number kind qualifier list (path ∷ paths) short (reads-list (path ∷ paths) few good below)
+    reads-object (part_bytes 0x81 (details number kind qualifier) ++ part_bytes 0x82 identities ++ part_bytes 0x92 list)
+    ∙ (ap proactive_parts (parts-with number kind qualifier list)
+    ∙ ap (with_list number kind qualifier) (reads-list (path ∷ paths) few good below))

@@ -1,6 +1,5 @@
 -- Words of the private contracts by which a file list is read from its front. No public clause cites them.
 use Rattle.std.specs.Prelude.{ℕ, List, [], ◌∷◌, ◌++◌, Option, Some, None, option_map}
-use Rattle.std.specs.Borrow.{Bor}
 use Rattle.refresh_cmd.specs.Proactive.{ids_of, with_id, split_paths, good_paths}
 
 -- the bytes as ids, cut before each MF
@@ -21,8 +20,3 @@ onto paths (Some (before, more)) = good_paths (before, paths ++ more)
 abbrev pub within : List (List ℕ) → List ℕ → Option (List ℕ × List (List ℕ)) → Option (List (List ℕ))
 within paths ids None = None
 within paths ids (Some (before, more)) = good_paths ([], paths ++ (ids ++ before) ∷ more)
-
--- a part of the source, where there is one
-abbrev pub value_seen : Option (Bor (List ℕ)) → Option (List ℕ)
-value_seen None = None
-value_seen (Some value) = Some value.now

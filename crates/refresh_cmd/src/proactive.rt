@@ -3,6 +3,7 @@
 use apdu::Path;
 use arrayvec::ArrayVec;
 use std::marker::Model;
+use thiserror::Error;
 use tlv::TlvError;
 
 /// A proactive command: its details, and the files of its file list. Contracts see it as the record of its fields.
@@ -26,14 +27,18 @@ impl Model for Proactive {
 }
 
 /// Why bytes are no proactive command.
-#[derive(Clone, Copy, Debug, PartialEq, Eq)]
+#[derive(Clone, Copy, Debug, PartialEq, Eq, Error)]
 pub enum ProactiveError {
     /// The first byte, 0 where there is none, is not D0.
+    #[error("the tag {0:02X} is not D0")]
     NotProactive(u8),
     /// The objects cannot be read.
+    #[error("the objects cannot be read: {0}")]
     Tlv(TlvError),
     /// The object of this tag has to be there, and is not, or has not its length.
+    #[error("no object of tag {0:02X} with its length")]
     Missing(u8),
     /// The file list is no count and as many paths from the master file.
+    #[error("the file list is no count and as many paths from the master file")]
     BadList,
 }

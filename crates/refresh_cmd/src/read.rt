@@ -1,15 +1,14 @@
 // Proactive commands from their bytes, ETSI TS 102 223 clauses 6.6.13 and 8.
-ghost use Rattle.std.specs.Prelude.{◌≡◌, List, ℕ, Some, None, option_map, IfOk, IfErr, OnOk};
-ghost use Rattle.std.specs.Borrow.{Bor};
-ghost use Rattle.tlv.specs.Objects.{simple_parts, value_of_tag};
+ghost use Rattle.std.specs.Prelude.{◌≡◌, option_map};
+ghost use Rattle.std.specs.Option.{option_copied};
+ghost use Rattle.tlv.specs.Objects.{simple_parts};
 ghost use Rattle.refresh_cmd.specs.Proactive as spec;
-ghost use Rattle.refresh_cmd.specs.Lists.{value_seen};
 
 use crate::list::read_list;
 use crate::{Proactive, ProactiveError};
 use apdu::Path;
 use arrayvec::ArrayVec;
-use tlv::{BerReader, SimpleReader, TlvError};
+use tlv::{BerReader, SimpleReader};
 
 /// The proactive command that these bytes begin with. Nothing behind its object is read.
 pub fn read_proactive(bytes: &[u8]) -> Result<Proactive, ProactiveError>
@@ -39,26 +38,16 @@ fn first_byte(bytes: &[u8]) -> u8
 fn read_objects(objects: &[u8]) -> Result<Proactive, ProactiveError>
     ensures { result ≡ spec.proactive_parts (simple_parts objects.now) }
 {
-    let details = first_value(objects, 0x01).map_err(ProactiveError::Tlv)?;
-    let identities = first_value(objects, 0x02).map_err(ProactiveError::Tlv)?;
-    let list = first_value(objects, 0x12).map_err(ProactiveError::Tlv)?;
+    let details = SimpleReader::new(objects)
+        .first_value(0x01)
+        .map_err(ProactiveError::Tlv)?;
+    let identities = SimpleReader::new(objects)
+        .first_value(0x02)
+        .map_err(ProactiveError::Tlv)?;
+    let list = SimpleReader::new(objects)
+        .first_value(0x12)
+        .map_err(ProactiveError::Tlv)?;
     from_values(details, identities, list)
-}
-
-// The value of the first object of this tag, where all objects can be read.
-fn first_value<'a>(objects: &'a [u8], tag: u8) -> Result<Option<&'a [u8]>, TlvError>
-    ensures whole { OnOk result ((simple_parts objects.now).damage ≡ None) }
-    ensures value { IfOk result (λ v. value_seen v ≡ value_of_tag tag (simple_parts objects.now).parts) }
-    ensures damage { IfErr result (λ error. (simple_parts objects.now).damage ≡ Some error) }
-{
-    let mut reader = SimpleReader::new(objects);
-    let mut first = None;
-    'objects: while let Some((found, value)) = reader.next()? {
-        if found == tag && first.is_none() {
-            first = Some(value);
-        }
-    }
-    Ok(first)
 }
 
 fn from_values(
@@ -66,7 +55,7 @@ fn from_values(
     identities: Option<&[u8]>,
     list: Option<&[u8]>,
 ) -> Result<Proactive, ProactiveError>
-    ensures { result ≡ spec.proactive_from (value_seen details.entry) (value_seen identities.entry) (spec.listed_paths (value_seen list.entry)) }
+    ensures { result ≡ spec.proactive_from (option_copied details.entry) (option_copied identities.entry) (spec.listed_paths (option_copied list.entry)) }
 {
     let Some([number, kind, qualifier]) = details else {
         return Err(ProactiveError::Missing(0x01));
@@ -83,7 +72,7 @@ fn with_list(
     qualifier: u8,
     list: Option<&[u8]>,
 ) -> Result<Proactive, ProactiveError>
-    ensures { result ≡ spec.with_list number kind qualifier (spec.listed_paths (value_seen list.entry)) }
+    ensures { result ≡ spec.with_list number kind qualifier (spec.listed_paths (option_copied list.entry)) }
 {
     let list = listed_paths(list).ok_or(ProactiveError::BadList)?;
     Ok(Proactive {
@@ -95,7 +84,7 @@ fn with_list(
 }
 
 fn listed_paths(list: Option<&[u8]>) -> Option<ArrayVec<Path, 64>>
-    ensures { option_map (λ paths. paths.items) result ≡ spec.listed_paths (value_seen list.entry) }
+    ensures { option_map (λ paths. paths.items) result ≡ spec.listed_paths (option_copied list.entry) }
 {
     match list {
         None => Some(ArrayVec::new_in(())),

@@ -4,8 +4,8 @@ ghost use Rattle.std.specs.Prelude.{◌≤◌, length, IfOk};
 use super::*;
 use apdu::Path;
 use arrayvec::ArrayVec;
+use std::alloc::Global;
 use std::test::Fail;
-use tlv::TlvError;
 
 // REFRESH, file change notification, of EF_SPN of the application.
 const SPN_CHANGED: [u8; 20] = [
@@ -16,14 +16,6 @@ const SPN_CHANGED: [u8; 20] = [
 // REFRESH, UICC reset, which has no file list.
 const RESET: [u8; 11] = [
     0xD0, 0x09, 0x81, 0x03, 0x01, 0x01, 0x04, 0x82, 0x02, 0x81, 0x82,
-];
-
-// Tags without their bit 8, an object of another tag, two objects of a tag, a file list of two
-// paths, and bytes behind.
-const MIXED: [u8; 36] = [
-    0xD0, 0x20, 0x12, 0x0D, 0x02, 0x3F, 0x00, 0x2F, 0xE2, 0x3F, 0x00, 0x7F, 0xFF, 0x6F, 0x3A, 0x4F,
-    0x22, 0x05, 0x01, 0x41, 0x01, 0x03, 0x02, 0x01, 0x03, 0x81, 0x03, 0x09, 0x09, 0x09, 0x02, 0x02,
-    0x81, 0x82, 0x00, 0x00,
 ];
 
 fn spn_changed() -> Result<Proactive, Fail>
@@ -55,106 +47,63 @@ fn writes(rt: HostRuntime) -> Result<(), Fail> {
     Ok(())
 }
 
+/// Bytes, and the details and paths that are read of them. The last have tags without their bit 8, an object of another tag, two
+/// objects of a tag, a file list of two paths, and bytes behind.
+const READ: &str = "D0128103010101820281829207013F007FFF6F46:1 1 1 7FFF6F46
+D009810301010482028182:1 1 4
+D020120D023F002FE23F007FFF6F3A4F2205014101030201038103090909020281820000:2 1 3 2FE2 7FFF6F3A4F22";
+
+/// Bytes, and why they are no proactive command: the tag; damage, which is told before anything that is missing; an object that is
+/// missing or has another length; a list of no count, of another, of a path that does not begin with the master file, of that file
+/// alone, of four further ids, and of a byte left over.
+const REFUSED: &str = ":the tag 00 is not D0
+8103:the tag 81 is not D0
+D009810301010482:the objects cannot be read: the object at byte 0 passes the end
+D0820000:the objects cannot be read: the length at byte 1 is neither one byte below 80 nor 81 and a byte
+D0058202818200:the objects cannot be read: byte 4 is no tag that is read
+D000:no object of tag 01 with its length
+D0088102010182028182:no object of tag 01 with its length
+D0058103010101:no object of tag 02 with its length
+D00C810301010182038182839200:no object of tag 02 with its length
+D00B8103010101820281829200:the file list is no count and as many paths from the master file
+D0128103010101820281829207023F007FFF6F46:the file list is no count and as many paths from the master file
+D00C810301010182028182920101:the file list is no count and as many paths from the master file
+D0108103010101820281829205017FFF6F46:the file list is no count and as many paths from the master file
+D00E8103010101820281829203013F00:the file list is no count and as many paths from the master file
+D016810301010182028182920B013F007FFF5F3A4F226F46:the file list is no count and as many paths from the master file
+D0118103010101820281829206013F007FFF6F:the file list is no count and as many paths from the master file";
+
+/// The details, and the ids of each path.
+fn command_text(alloc: Global, p: &Proactive) -> Result<String, Fail> {
+    let mut text = format!(in alloc; "{} {} {}", p.number, p.kind, p.qualifier)?;
+    for path in p.list.as_slice() {
+        text.push(' ')?;
+        for id in path.ids() {
+            text.push_str(format!(in alloc; "{id:04X}")?.as_str())?;
+        }
+    }
+    Ok(text)
+}
+
 #[test]
 fn reads(rt: HostRuntime) -> Result<(), Fail> {
-    let cases: [(&[u8], [u8; 3], &[&[u16]]); 3] = [
-        (&SPN_CHANGED, [1, 1, 1], &[&[0x7FFF, 0x6F46]]),
-        (&RESET, [1, 1, 4], &[]),
-        (&MIXED, [2, 1, 3], &[&[0x2FE2], &[0x7FFF, 0x6F3A, 0x4F22]]),
-    ];
-    for (bytes, details, paths) in cases {
-        let p = read_proactive(bytes).map_err(|_| "refused")?;
-        assert_eq!(rt; [p.number, p.kind, p.qualifier], details);
-        assert_eq!(rt; p.list.len(), paths.len());
-        for (path, ids) in p.list.as_slice().iter().zip(paths) {
-            assert_eq!(rt; path.ids(), *ids);
-        }
+    for case in READ.lines() {
+        let (bytes, want) = case.split_once(':').ok_or("bytes")?;
+        let bytes = hex::decode(rt.alloc(), bytes)?;
+        let found = command_text(rt.alloc(), &read_proactive(&bytes)?)?;
+        assert_eq!(rt; found.as_str(), want, "at {case}");
     }
     Ok(())
 }
 
 #[test]
-fn refuses(rt: HostRuntime) {
-    let cases: [(&[u8], ProactiveError); 9] = [
-        (&[], ProactiveError::NotProactive(0)),
-        (&[0x81, 0x03], ProactiveError::NotProactive(0x81)),
-        (
-            &[0xD0, 0x09, 0x81, 0x03, 0x01, 0x01, 0x04, 0x82],
-            ProactiveError::Tlv(TlvError::Cut { at: 0 }),
-        ),
-        (
-            &[0xD0, 0x82, 0x00, 0x00],
-            ProactiveError::Tlv(TlvError::BadLength { at: 1 }),
-        ),
-        // damage before anything that is missing
-        (
-            &[0xD0, 0x05, 0x82, 0x02, 0x81, 0x82, 0x00],
-            ProactiveError::Tlv(TlvError::BadTag { at: 4 }),
-        ),
-        (&[0xD0, 0x00], ProactiveError::Missing(0x01)),
-        // the details have two bytes
-        (
-            &[0xD0, 0x08, 0x81, 0x02, 0x01, 0x01, 0x82, 0x02, 0x81, 0x82],
-            ProactiveError::Missing(0x01),
-        ),
-        (
-            &[0xD0, 0x05, 0x81, 0x03, 0x01, 0x01, 0x01],
-            ProactiveError::Missing(0x02),
-        ),
-        // the identities have three bytes, and the list has no count
-        (
-            &[
-                0xD0, 0x0C, 0x81, 0x03, 0x01, 0x01, 0x01, 0x82, 0x03, 0x81, 0x82, 0x83, 0x92, 0x00,
-            ],
-            ProactiveError::Missing(0x02),
-        ),
-    ];
-    for (bytes, error) in cases {
-        assert_eq!(rt; read_proactive(bytes).err(), Some(error));
+fn refuses(rt: HostRuntime) -> Result<(), Fail> {
+    for case in REFUSED.lines() {
+        let (bytes, want) = case.split_once(':').ok_or("bytes")?;
+        let bytes = hex::decode(rt.alloc(), bytes)?;
+        let error = read_proactive(&bytes).err().ok_or("a refusal")?;
+        let found = format!(in rt.alloc(); "{error}")?;
+        assert_eq!(rt; found.as_str(), want, "at {case}");
     }
-}
-
-#[test]
-fn refuses_lists(rt: HostRuntime) {
-    let lists: [&[u8]; 7] = [
-        // no count
-        &[],
-        // another count
-        &[0x02, 0x3F, 0x00, 0x7F, 0xFF, 0x6F, 0x46],
-        &[0x01],
-        // a path that does not begin with the master file
-        &[0x01, 0x7F, 0xFF, 0x6F, 0x46],
-        // the master file alone
-        &[0x01, 0x3F, 0x00],
-        // four further ids
-        &[
-            0x01, 0x3F, 0x00, 0x7F, 0xFF, 0x5F, 0x3A, 0x4F, 0x22, 0x6F, 0x46,
-        ],
-        // a byte left over
-        &[0x01, 0x3F, 0x00, 0x7F, 0xFF, 0x6F],
-    ];
-    for list in lists {
-        let mut bytes = ArrayVec::<u8, 32>::new();
-        let head = [
-            0xD0,
-            11 + list.len() as u8,
-            0x81,
-            3,
-            1,
-            1,
-            1,
-            0x82,
-            2,
-            0x81,
-            0x82,
-            0x92,
-            list.len() as u8,
-        ];
-        let _ = bytes.try_extend_from_slice(&head);
-        let _ = bytes.try_extend_from_slice(list);
-        assert_eq!(rt;
-            read_proactive(bytes.as_slice()).err(),
-            Some(ProactiveError::BadList)
-        );
-    }
+    Ok(())
 }

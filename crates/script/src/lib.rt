@@ -1,27 +1,12 @@
 //! Scripts: the cards, the changes and the actors of a run, read from JSON and written as JSON.
 #![tactic(auto)]
 
-mod cards;
-mod error;
-mod fields;
-mod files;
-mod operations;
-mod pairing;
-mod parts;
-mod read;
-mod to_json;
-mod types;
-mod words;
-mod world;
-mod write;
-
-pub use error::{Part, ScriptError, Why};
-pub use read::read_script;
-pub use types::{
+pub use script_reader::{
     ActorNumbers, ActorSpecs, CardSpec, CardSpecs, ChangeSpec, ChangeSpecs, FileSpec, FileSpecs,
-    KeySpec, KeySpecs, KindSpec, Operation, Operations, RowSpecs, Script,
+    KeySpec, KeySpecs, KindSpec, Operation, Operations, Part, RowSpecs, Script, ScriptError, Why,
+    read_script,
 };
-pub use write::write_script;
+pub use script_writer::write_script;
 
 #[cfg(test)]
 mod tests;

@@ -1,67 +1,41 @@
-// What is a script, and the first rule that other bytes break.
-mod cards;
-mod changes;
-mod files;
-mod json;
-mod limits;
-mod operations;
-mod parts;
-mod world;
-mod writing;
-
-use crate::{ScriptError, read_script};
-use std::alloc::{AllocError, Global};
+// A script is read, its lists are made, and it is written in one spelling.
+use crate::{read_script, write_script};
+use std::alloc::Global;
 use std::process::Abort;
+use std::test::Fail;
 
-/// The worked script: one card with EF_ICCID, which is put in and loaded.
-const WORKED: &str =
-    r#"{"actors":[[{"card":0,"op":"in"},{"family":"records","op":"load"}]],"cards":[{"files":[{"data":"98101430121181157002","kind":"transparent","path":"2FE2"}]}],"schedule":[1,0,0,1],"version":1}"#;
+/// A script with each operation, and with each field that may be left out.
+const WHOLE: &str =
+    r#"{"actors":[[{"card":0,"op":"in"},{"op":"out"},{"change":0,"op":"arm"},{"family":"records","op":"load"},{"at":1,"family":"phonebook","name":"A\"\\\u0000я","number":"+1","op":"set"},{"family":"fixed","name":"","number":"","op":"set"},{"at":255,"family":"fixed","op":"clear"},{"aid":"A000000087","op":"open","ref":15},{"apdu":"00A40804022FE200","op":"raw","ref":15},{"op":"close","ref":15},{"key":"01","op":"verify","pin":"31323334FFFFFFFF"},{"key":"01","op":"end"},{"op":"poll"},{"op":"look"},{"mask":130,"op":"watch"},{"op":"notices"}],[]],"budget":20000000,"cards":[{"aids":["A0000000871002"],"channels":2,"files":[{"active":false,"arr":"2F0601","data":"0102","endless":true,"fcp":"62","kind":"transparent","path":"7FFF6F07"},{"kind":"linear","len":2,"path":"7F106F3A","records":["0304","ABCD"]}],"get_response":true,"keys":[{"key":"81","max":3,"pin":"3132333435363738","tries":2}]},{"files":[]}],"changes":[{"files":[{"data":"07","kind":"transparent","path":"7FFF6F07"}],"list":["7FFF6F07","7F106F3A"],"qualifier":1},{"qualifier":0,"type":2}],"faults":[{"acted":true,"at":3},{"acted":false,"at":4294967295}],"schedule":[2,0,1],"version":1}"#;
 
-/// `script`, or the part, the index and the rule by which the bytes are refused.
-fn told(alloc: Global, bytes: &[u8]) -> Result<String, AllocError> {
-    match read_script(alloc, bytes) {
-        Ok(_) => String::from_str(alloc, "script"),
-        Err(ScriptError::Refused { part, index, why }) => {
-            format!(in alloc; "{part:?} {index} {why:?}")
-        }
-        Err(ScriptError::Memory) => String::from_str(alloc, "memory"),
-    }
-}
-
-/// What is told of each text is what stands beside it.
-fn check_texts(rt: &impl Abort, alloc: Global, cases: &[(&str, &str)]) -> Result<(), AllocError> {
-    for (text, wanted) in cases {
-        let found = told(alloc, text.as_bytes())?;
-        assert_eq!(rt; found.as_str(), *wanted, "{text}");
-    }
+/// The script of this text is written as that text.
+fn check_written(rt: &impl Abort, alloc: Global, text: &str, wanted: &str) -> Result<(), Fail> {
+    let script = read_script(alloc, text.as_bytes()).map_err(|_| "refused")?;
+    let written = write_script(alloc, &script)?;
+    assert_eq!(rt; written.as_str(), wanted);
     Ok(())
 }
 
-/// The same, each text between the two halves of a script.
-fn check_within(
-    rt: &impl Abort,
-    alloc: Global,
-    script: (&str, &str),
-    cases: &[(&str, &str)],
-) -> Result<(), AllocError> {
-    let (front, back) = script;
-    for (text, wanted) in cases {
-        let whole = format!(in alloc; "{front}{text}{back}")?;
-        let found = told(alloc, whole.as_bytes())?;
-        assert_eq!(rt; found.as_str(), *wanted, "{text}");
-    }
-    Ok(())
+#[test]
+fn scripts_are_written_in_one_spelling(rt: HostRuntime) -> Result<(), Fail> {
+    check_written(&rt, rt.alloc(), WHOLE, WHOLE)?;
+    check_written(
+        &rt,
+        rt.alloc(),
+        r#" { "version": 1, "schedule": [], "faults": [], "changes": [ {"type": 1, "qualifier": 0, "list": [], "files": []} ],
+            "cards": [ {"files": [ {"path": "2fe2", "kind": "transparent", "data": "0a", "active": true, "endless": false} ],
+                "aids": [], "keys": [], "channels": 3, "get_response": false} ],
+            "actors": [[]] } "#,
+        r#"{"actors":[[]],"cards":[{"files":[{"data":"0A","kind":"transparent","path":"2FE2"}]}],"changes":[{"qualifier":0}],"version":1}"#,
+    )
 }
 
-/// A list of so many of these items.
-fn list(alloc: Global, item: &str, count: usize) -> Result<String, AllocError> {
-    let mut out = String::from_str(alloc, "[")?;
-    for i in 0..count {
-        if i > 0 {
-            out.push_str(",")?;
-        }
-        out.push_str(item)?;
-    }
-    out.push_str("]")?;
-    Ok(out)
+#[test]
+fn lists_of_a_script_are_made(rt: HostRuntime) -> Result<(), Fail> {
+    let script = read_script(rt.alloc(), WHOLE.as_bytes()).map_err(|_| "refused")?;
+    let images = script.images(rt.alloc())?;
+    let changes = script.changes(rt.alloc())?;
+    let faults = script.faults(rt.alloc())?;
+    assert_eq!(&rt; (images.len(), changes.len(), faults.len()), (2, 2, 2));
+    Ok(())
 }

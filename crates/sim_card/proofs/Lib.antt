@@ -1,12 +1,5 @@
-pub mod Found
-pub mod Keys
-pub mod Numbers
-pub mod Walk
-pub mod Refusals
-pub mod Announcements
-pub mod Tries
-pub mod Resets
+pub mod Copies
 pub mod Stock
 pub mod Put
+pub mod Events
 pub mod Worlds
-pub mod Shapes

@@ -3,25 +3,21 @@ use Rattle.std.proofs.Common.{◌≡◌, ◌<◌, ◌+◌, ◌||◌, All, Result
 use Rattle.std.proofs.Math.ListN.{set, get_or-map}
 use Rattle.std.proofs.Math.Seq.{map-set_same}
 use Rattle.std.proofs.lemmas.List.{length-set, get_or-set_same, set-get_or, set-set, length-map}
-use Rattle.std.proofs.lemmas.List.Elements.{All-push, All-set, All-tail}
+use Rattle.std.proofs.lemmas.List.Elements.{All-get_or, All-push, All-set, All-tail}
 use Rattle.std.proofs.lemmas.List.Quantifiers.{position-Some}
-use Rattle.std.proofs.lemmas.Option.{slice_get_read}
+use Rattle.std.proofs.lemmas.Option.{get_or_from_slice_get, slice_get_read, slice_get_within}
+use Rattle.std.specs.Prelude.{option_and_then}
+use Rattle.std.specs.Borrow.{Bor}
 use Rattle.std.specs.List.{list_any, position}
 use Rattle.apdu.specs.Words.{has_value}
 use Rattle.card_model.specs.declared.world.FileState.{FileState}
 use Rattle.card_model.specs.declared.world.CardState.{CardState}
-use Rattle.apdu.specs.Values.{CommandValue, ResponseValue}
 use Rattle.card_model.specs.declared.world.Change.{Change}
-use Rattle.card_model.specs.declared.world.ChannelState.{ChannelState}
-use Rattle.card_model.specs.declared.instruction.Instruction.{Instruction}
-use Rattle.card_model.specs.Instructions.{instruction_of}
-use Rattle.card_model.specs.Step.{on_row}
-use Rattle.card_model.specs.Card.{has_path}
+use Rattle.card_model.specs.Card.{has_path, first_armed}
 use Rattle.card_model.specs.Toolkit.{file_put, with_file, with_files}
 use Rattle.card_model.specs.Limits.{HasFittingParameters, IsFittingCard}
-use Rattle.sim_card.specs.Shapes.{shape_of, shapes, is_fetch}
+use Rattle.card_rows.specs.Shapes.{shape_of, shapes}
 use Rattle.sim_card.specs.Spares.{same_shape, fits, has_shape_path, IsReadyFor, StaysReady, IsStocked}
-use Rattle.sim_card.proofs.Shapes.{row_keeps}
 use Rattle.sim_card.proofs.Stock.{find_here, right_of, shape_at, same_parts, same_shapes}
 
 -- ---- items of lists
@@ -90,8 +86,8 @@ pub with_files_hold : (P : FileState → Type 0) (files news : List FileState) �
 with_files_hold P files [] h p = h
 with_files_hold P files (new ∷ more) h p = with_files_hold P (with_file files new) more (put_holds P files new (position (has_path new.path) files) h (p 0 new (omega arith))) (All-tail P new more p)
 
-pub applied_fits : (card : CardState) (put news : List FileState) (armed : List ℕ) → put ≡ with_files card.files news → IsFittingCard card → All HasFittingParameters news → IsFittingCard (record card { files = put; armed = armed; awaiting = true })
-applied_fits card put news armed e fits h = record {
+pub put_fits : (card : CardState) (put news : List FileState) → put ≡ with_files card.files news → IsFittingCard card → All HasFittingParameters news → IsFittingCard (record card { files = put })
+put_fits card put news e fits h = record {
   files = subst (λ files. All HasFittingParameters files) (sym e) (with_files_hold HasFittingParameters card.files news fits.files h);
   aids = fits.aids;
   applications = fits.applications;
@@ -111,7 +107,16 @@ stock_of_shapes changes files spares new_files same stocked =
     let count : length new_files ≡ length files = sym (length-map new_files shape_of) ∙ ap length same ∙ length-map files shape_of in
     stock_stays changes files spares new_files spares stocked (λ shape h. rw same h) (omega (arith, count))
 
--- by every row but FETCH
-pub row_stocks : (changes : List Change) (card new : CardState) (spares : List FileState) (place : ℕ) (channel : ChannelState) (c : CommandValue) (row : Instruction) (response : ResponseValue) → instruction_of c.ins ≡ Some row → is_fetch row ≡ false → (new, response) ≡ on_row changes card place channel c row → IsStocked changes card.files spares → IsStocked changes new.files spares
-row_stocks changes card new spares place channel c row response is other value stocked =
-    stock_of_shapes changes card.files spares new.files (ap (λ (outcome : CardState × ResponseValue). shapes outcome.0.files) value ∙ row_keeps changes card place channel c row is other) stocked
+-- ---- the change that is fetched
+
+change_holds : (P : Change → Type 0) (changes : List Change) (number : Option ℕ) (change : Change) → All P changes → Some change ≡ option_and_then (slice_get changes) number → P change
+change_holds P changes None change h e = absurd (cc)
+change_holds P changes (Some i) change h e =
+    subst P (get_or_from_slice_get changes i change change (sym e)) (All-get_or P changes i change (slice_get_within changes i change (sym e)) h)
+
+-- what holds of every change holds of the one that was armed first
+pub armed_holds : (P : Change → Type 0) (changes : List Change) (card : CardState) (change : Change) → All P changes → Some change ≡ first_armed changes card → P change
+armed_holds P changes card change h e = change_holds P changes (slice_get card.armed 0) change h e
+
+pub fetched_is : (first : Option Change) (fetched : Option (Bor Change)) (change : Bor Change) → fetched ≡ Some change → IfSome fetched (λ change. Some change.now ≡ first) → Some change.now ≡ first
+fetched_is first fetched change is h = subst (λ (o : Option (Bor Change)). IfSome o (λ change. Some change.now ≡ first)) is h

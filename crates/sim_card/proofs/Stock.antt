@@ -13,7 +13,7 @@ use Rattle.fcp.specs.declared.rows.FileKind.{FileKind}
 use Rattle.fcp.specs.declared.rows.FileKind.TheVariants.{Transparent, Linear, Directory}
 use Rattle.card_model.specs.declared.world.FileState.{FileState}
 use Rattle.card_model.specs.Card.{has_path}
-use Rattle.sim_card.specs.Shapes.{Shape, shape_of, shapes}
+use Rattle.card_rows.specs.Shapes.{Shape, shape_of, shapes}
 use Rattle.sim_card.specs.Spares.{same_kind, same_shape, fits, has_shape_path, is_ready, StaysReady}
 
 -- ---- a search in a list with another item

@@ -12,11 +12,11 @@ use Rattle.card_model.specs.declared.world.World.{World}
 use Rattle.card_model.specs.declared.world.WorldEvent.{WorldEvent}
 use Rattle.card_model.specs.Limits.{all_files, HasRoom}
 use Rattle.card_model.specs.Step.{after_event, after_reset}
-use Rattle.sim_card.specs.Shapes.{shape_of}
+use Rattle.card_rows.specs.Shapes.{shape_of}
 use Rattle.sim_card.specs.Spares.{fits, IsStocked, AreStocked, IsStockedWorld, files_of}
 use Rattle.sim_card.proofs.Stock.{either_true, same_shape_itself}
 use Rattle.sim_card.proofs.Put.{any_of_shapes}
-use Rattle.sim_card.proofs.Shapes.{event_keeps, event_keeps_changes, reset_keeps_files, reset_keeps_changes}
+use Rattle.sim_card.proofs.Events.{event_keeps, event_keeps_changes, reset_keeps_files, reset_keeps_changes}
 
 -- ---- one card of several
 

@@ -10,7 +10,7 @@ use Rattle.card_model.specs.declared.world.FileState.{FileState}
 use Rattle.card_model.specs.declared.world.Change.{Change}
 use Rattle.card_model.specs.declared.world.CardState.{CardState}
 use Rattle.card_model.specs.declared.world.World.{World}
-use Rattle.sim_card.specs.Shapes.{Shape, shape_of, shapes}
+use Rattle.card_rows.specs.Shapes.{Shape, shape_of, shapes}
 
 abbrev pub same_kind : FileKind → FileKind → Bool
 same_kind Transparent kind = is_transparent kind

@@ -176,6 +176,10 @@ impl Slot for SimSlot {
 }
 
 impl ScriptedSlot for SimSlot {
+    ghost use Rattle.std.specs.Prelude.{refl};
+
+    ghost tells_both = { λ _ _. refl };
+
     #[tactic(auto, using(crate::proofs::Worlds::stocked_event))]
     fn world(&mut self, event: &WorldEvent) -> Result<(), WorldRefusal> {
         apply_event(&mut self.state, event)

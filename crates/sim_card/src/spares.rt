@@ -1,5 +1,5 @@
 // Spare files beside a card: what a FETCH gives it is written into files that were made before, so that it takes no memory.
-ghost use Rattle.std.specs.Prelude.{◌≡◌, ◌≤◌, ◌<◌, ◌+◌, ◌∷◌, ◌++◌, [], true, None, Some, length, map, slice_get, slice_set, option_map, All, IfOk, IfSome, OnOk, IsTrue, List};
+ghost use Rattle.std.specs.Prelude.{◌≡◌, ◌≤◌, ◌<◌, ◌+◌, ◌∷◌, ◌++◌, [], true, None, Some, length, map, slice_get, slice_set, option_map, All, IfOk, IfSome};
 ghost use Rattle.std.specs.List.{list_any, position};
 ghost use Rattle.apdu.specs.Words.{same_number as is_same_number};
 ghost use Rattle.card_model.specs.declared.world.FileState.{FileState};
@@ -10,9 +10,9 @@ ghost use Rattle.card_model.specs.Toolkit.{with_file, with_files};
 ghost use Rattle.sim_card.specs.Spares as stock;
 ghost use Rattle.sim_card.specs.Spares.{IsReadyFor, StaysReady};
 
-use crate::file::place_in;
-use apdu::{Bytes, Memory, Sequence};
+use apdu::{Memory, Sequence};
 use card_model::{CardFiles, CardState, Change, Changes, FileList, FileState};
+use card_rows::place_in;
 use fcp::FileKind;
 use std::alloc::Global;
 use std::mem::swap;
@@ -168,68 +168,25 @@ pub fn put_files(files: &mut CardFiles, spares: &mut FileList, new: &[FileState]
     put_files(files, spares, rest);
 }
 
-fn copy_of(alloc: Global, file: &FileState) -> Result<FileState, Memory>
-    ensures { IfOk result (λ copy. copy ≡ file.now) }
+// A spare for each file of each change.
+#[tactic(auto, using(crate::proofs::Copies::copyable, crate::proofs::Copies::copied))]
+fn spare_files(alloc: Global, changes: &[Change]) -> Result<FileList, Memory>
+    ensures { IfOk result (λ files. files ≡ all_files changes.now) }
 {
-    let fcp = match &file.fcp {
-        Some(bytes) => Some(Bytes::from_slice(alloc, bytes.as_slice())?),
-        None => None,
-    };
-    Ok(FileState {
-        path: file.path.copy(),
-        rows: file.rows.copy()?,
-        active: file.active,
-        arr: file.arr,
-        endless: file.endless,
-        fcp,
-    })
-}
-
-// Puts copies of files at the end.
-fn put_copies(alloc: Global, out: &mut FileList, files: &[FileState]) -> Result<(), Memory>
-    ensures { OnOk result (out.new ≡ out.old ++ files.now) }
-{
-    let [file, rest @ ..] = files else {
-        return Ok(());
-    };
-    out.push(copy_of(alloc, file)?)?;
-    put_copies(alloc, out, rest)
-}
-
-// Puts copies of the files of changes at the end.
-fn put_changes(alloc: Global, out: &mut FileList, changes: &[Change]) -> Result<(), Memory>
-    ensures { OnOk result (out.new ≡ out.old ++ all_files changes.now) }
-{
-    let [change, rest @ ..] = changes else {
-        return Ok(());
-    };
-    put_copies(alloc, out, change.files.as_slice())?;
-    put_changes(alloc, out, rest)
-}
-
-// Puts spares for cards at the end, a copy of each change's files for each card.
-fn put_spares(
-    alloc: Global,
-    out: &mut Spares,
-    cards: &[CardState],
-    changes: &Changes,
-) -> Result<(), Memory>
-    ensures { OnOk result (out.new ≡ out.old ++ map (λ _. all_files changes.now) cards.now) }
-{
-    let [_, rest @ ..] = cards else {
-        return Ok(());
-    };
-    let mut spares = Sequence::new(alloc);
-    put_changes(alloc, &mut spares, changes.as_slice())?;
-    out.push(spares)?;
-    put_spares(alloc, out, rest, changes)
+    let mut files = Sequence::new(alloc);
+    for change in changes {
+        files.extend_made(alloc, change.files.as_slice())?;
+    }
+    Ok(files)
 }
 
 /// The spares of cards before any FETCH.
 pub fn spares_of(alloc: Global, cards: &[CardState], changes: &Changes) -> Result<Spares, Memory>
     ensures { IfOk result (λ spares. spares ≡ map (λ _. all_files changes.now) cards.now) }
 {
-    let mut out = Sequence::new(alloc);
-    put_spares(alloc, &mut out, cards, changes)?;
-    Ok(out)
+    let mut spares = Sequence::new(alloc);
+    for _ in cards {
+        spares.push(spare_files(alloc, changes.as_slice())?)?;
+    }
+    Ok(spares)
 }

@@ -1,15 +1,16 @@
 // A command in the world, and the reset of the card in the slot.
-ghost use Rattle.std.specs.Prelude.{◌≡◌, slice_get, is_some, map};
+ghost use Rattle.std.specs.Prelude.{◌≡◌, slice_get, is_some, All};
+ghost use Rattle.apdu.specs.Apdu.{refusal};
 ghost use Rattle.card_model.specs.Step as table;
-ghost use Rattle.card_model.specs.Limits.{IsFittingCard, IsFittingWorld};
+ghost use Rattle.card_model.specs.Limits.{IsFittingWorld};
 ghost use Rattle.sim_card.specs.Spares.{IsStockedWorld};
 
-use crate::card::on_card;
-use crate::channel::fresh_channel;
-use crate::response::refused;
+use crate::fetch::on_stocked_card;
 use crate::spares::Spares;
-use apdu::{Command, Response};
-use card_model::{CardState, KeyList, World};
+use apdu::{Command, Response, Sw};
+use arrayvec::ArrayVec;
+use card_model::World;
+use card_rows::reset_card;
 
 /// Whether the slot holds a card.
 pub fn holds_card(world: &World) -> bool
@@ -18,6 +19,16 @@ pub fn holds_card(world: &World) -> bool
     match world.inside {
         Some(place) => world.cards.get(place as usize).is_some(),
         None => false,
+    }
+}
+
+// What an empty slot answers.
+fn nothing() -> Response
+    ensures { result ≡ refusal 0 }
+{
+    Response {
+        body: ArrayVec::new(),
+        sw: Sw(0),
     }
 }
 
@@ -30,10 +41,10 @@ fn step_of_card(world: &mut World, spares: &mut Spares, place: u8, command: &Com
     ensures value { (world.new, result) ≡ table.step_of_card world.old place (slice_get world.old.cards place) command.now }
 {
     if place as usize >= world.cards.len() {
-        return refused(0);
+        return nothing();
     }
     let place = place as usize;
-    on_card(
+    on_stocked_card(
         &world.changes,
         world.cards.at_mut(place),
         spares.at_mut(place),
@@ -52,28 +63,8 @@ pub fn step(world: &mut World, spares: &mut Spares, command: &Command) -> Respon
 {
     match world.inside {
         Some(place) => step_of_card(world, spares, place, command),
-        None => refused(0),
+        None => nothing(),
     }
-}
-
-fn forget_keys(keys: &mut KeyList)
-    ensures { keys.new ≡ map table.unverified keys.old }
-{
-    'keys: for at in 0..keys.len() {
-        keys.at_mut(at).verified = false;
-    }
-}
-
-fn reset_card(card: &mut CardState)
-    requires { IsFittingCard card.old }
-    ensures fits { IsFittingCard card.new }
-    ensures value { card.new ≡ table.reset_card card.old }
-{
-    card.channels.clear();
-    let _ = card.channels.push(fresh_channel(0));
-    forget_keys(&mut card.keys);
-    card.awaiting = false;
-    card.waiting = None;
 }
 
 /// Puts the card at a place in, and resets it, where there is one.

@@ -1,10 +1,7 @@
-// Exchanges with a card of a few files, byte for byte.
+// Calls that no conversation with a card shows: lists of calls, planned faults, refused events.
 ghost use Rattle.std.specs.Prelude.{◌≡◌, ◌<◌, ◌^◌, length, All, IfOk, IfSome};
 ghost use Rattle.apdu.specs.Values.{HasLe};
 ghost use Rattle.card_model.specs.Limits.{HasFittingParameters, HasRoom, IsFittingCard, IsFittingChange, all_files};
-
-mod fetch;
-mod rows;
 
 use crate::{Call, SimSlot, play};
 use apdu::{Bytes, Command, Path, Sequence};
@@ -13,17 +10,12 @@ use card_model::{
     ArmedList, CardFiles, CardState, Change, Changes, ChannelList, Fault, FileState, Images,
     PinState, ScriptedSlot, Slot, WorldEvent, WorldRefusal,
 };
-use fcp::{ArrRef, Rows};
+use fcp::Rows;
 use std::alloc::Global;
 use std::process::Abort;
 use std::test::Fail;
 
 const ICCID: [u8; 10] = [0x98, 0x10, 0x14, 0x30, 0x12, 0x11, 0x81, 0x15, 0x70, 0x02];
-
-// PIN 01 is wanted for reading, and updating is never allowed.
-const READ_BY_PIN: [u8; 11] = [
-    0x80, 0x01, 0x01, 0xA4, 0x06, 0x83, 0x01, 0x01, 0x95, 0x01, 0x08,
-];
 
 const USIM: [u8; 12] = [
     0xA0, 0x00, 0x00, 0x00, 0x87, 0x10, 0x02, 0xFF, 0x49, 0xFF, 0xFF, 0x89,
@@ -71,26 +63,20 @@ fn card(alloc: Global) -> Result<CardState, Fail>
     })
 }
 
-fn add(card: &mut CardState, file: FileState) -> Result<(), Fail>
-    requires card { IsFittingCard card.old }
-    requires file { HasFittingParameters file }
-    ensures { IsFittingCard card.new }
-{
-    card.files.push(file)?;
-    Ok(())
-}
-
 // REFRESH, file change notification, of EF_SPN of the application.
 fn change(alloc: Global) -> Result<Change, Fail>
     ensures { IfOk result IsFittingChange }
 {
+    let ids = [0x7FFF, 0x6F46];
     let mut list = Sequence::new(alloc);
-    list.push(Path::from_ids(&[0x7FFF, 0x6F46]).ok_or("a path")?)?;
+    list.push(Path::from_ids(&ids).ok_or("a path")?)?;
+    let mut files = Sequence::new(alloc);
+    files.push(file(alloc, &ids, &[0x00, 0x41])?)?;
     Ok(Change {
         qualifier: 1,
         kind: 1,
         list,
-        files: Sequence::new(alloc),
+        files,
     })
 }
 
@@ -186,190 +172,6 @@ fn answers(rt: &impl Abort, slot: &mut SimSlot, command: &Command, expected: &[u
     assert_eq!(rt; response.write().as_slice(), expected);
 }
 
-const PARAMETERS: [u8; 17] = [
-    0x62, 0x0F, 0x82, 0x02, 0x41, 0x21, 0x83, 0x02, 0x2F, 0xE2, 0x8A, 0x01, 0x05, 0x80, 0x02, 0x00,
-    0x0A,
-];
-
-#[test]
-fn first_exchanges(rt: HostRuntime) -> Result<(), Fail> {
-    let alloc = rt.alloc();
-    let mut card = card(alloc)?;
-    card.aids.truncate(0);
-    let mut slot = slot_of(alloc, card, &[])?;
-    slot.world(&WorldEvent::Insert(0)).or(Err("insert"))?;
-    answers(&rt, &mut slot, &profile(), &[0x90, 0x00]);
-    answers(
-        &rt,
-        &mut slot,
-        &select(0x04, 0x0C, &USIM[..7]),
-        &[0x6A, 0x82],
-    );
-    let parameters = [
-        0x62, 0x0F, 0x82, 0x02, 0x41, 0x21, 0x83, 0x02, 0x2F, 0xE2, 0x8A, 0x01, 0x05, 0x80, 0x02,
-        0x00, 0x0A, 0x90, 0x00,
-    ];
-    answers(
-        &rt,
-        &mut slot,
-        &select(0x08, 0x04, &[0x2F, 0xE2]),
-        &parameters,
-    );
-    let content = [
-        0x98, 0x10, 0x14, 0x30, 0x12, 0x11, 0x81, 0x15, 0x70, 0x02, 0x90, 0x00,
-    ];
-    answers(&rt, &mut slot, &read(0, 10), &content);
-    answers(
-        &rt,
-        &mut slot,
-        &select(0x08, 0x04, &[0x7F, 0xFF, 0x6F, 0x07]),
-        &[0x6A, 0x82],
-    );
-    Ok(())
-}
-
-// A card whose files cannot be read for one reason or another.
-fn guarded_card(alloc: Global) -> Result<CardState, Fail>
-    ensures { IfOk result IsFittingCard }
-{
-    let mut card = card(alloc)?;
-    let mut endless = file(alloc, &[0x2F02], &ICCID)?;
-    endless.endless = true;
-    add(&mut card, endless)?;
-    let mut inactive = file(alloc, &[0x2F03], &ICCID)?;
-    inactive.active = false;
-    add(&mut card, inactive)?;
-    let mut guarded = file(alloc, &[0x2F04], &ICCID)?;
-    guarded.arr = Some(ArrRef {
-        file_id: 0x2F06,
-        row: 1,
-    });
-    add(&mut card, guarded)?;
-    add(&mut card, file(alloc, &[0x2F06], &READ_BY_PIN)?)?;
-    Ok(card)
-}
-
-#[test]
-fn refused_reads(rt: HostRuntime) -> Result<(), Fail> {
-    let alloc = rt.alloc();
-    let mut slot = slot_of(alloc, guarded_card(alloc)?, &[])?;
-    slot.world(&WorldEvent::Insert(0)).or(Err("insert"))?;
-    answers(&rt, &mut slot, &read(0, 1), &[0x69, 0x86]);
-    for (id, at, le, word) in [
-        (0x02, 0, 10, [0x6C, 0x01]),
-        (0x03, 0, 10, [0x69, 0x85]),
-        (0x04, 0, 10, [0x69, 0x82]),
-        (0xE2, 10, 1, [0x6B, 0x00]),
-        (0xE2, 4, 7, [0x6C, 0x06]),
-        (0xE2, 0, 0, [0x6C, 0x0A]),
-    ] {
-        answers(
-            &rt,
-            &mut slot,
-            &select(0x08, 0x0C, &[0x2F, id]),
-            &[0x90, 0x00],
-        );
-        answers(&rt, &mut slot, &read(at, le), &word);
-    }
-    Ok(())
-}
-
-#[test]
-fn directories_and_applications(rt: HostRuntime) -> Result<(), Fail> {
-    let alloc = rt.alloc();
-    let mut card = card(alloc)?;
-    add(&mut card, file(alloc, &[0x7F10, 0x6F3A], &ICCID)?)?;
-    add(&mut card, file(alloc, &[0x7FFF, 0x6F07], &ICCID)?)?;
-    let mut slot = slot_of(alloc, card, &[])?;
-    slot.world(&WorldEvent::Insert(0)).or(Err("insert"))?;
-    for (id, word) in [
-        ([0x7F, 0x10], [0x90, 0x00]),
-        ([0x6F, 0x3A], [0x90, 0x00]),
-        ([0x6F, 0x3A], [0x90, 0x00]),
-        ([0x2F, 0xE2], [0x6A, 0x82]),
-        ([0x3F, 0x00], [0x90, 0x00]),
-        ([0x2F, 0xE2], [0x90, 0x00]),
-        ([0x7F, 0xFF], [0x6A, 0x82]),
-    ] {
-        answers(&rt, &mut slot, &select(0x00, 0x0C, &id), &word);
-    }
-    let directory = [
-        0x62, 0x0B, 0x82, 0x02, 0x78, 0x21, 0x83, 0x02, 0x7F, 0x10, 0x8A, 0x01, 0x05, 0x90, 0x00,
-    ];
-    answers(
-        &rt,
-        &mut slot,
-        &select(0x08, 0x04, &[0x7F, 0x10]),
-        &directory,
-    );
-    let application = [
-        0x62, 0x15, 0x82, 0x02, 0x78, 0x21, 0x84, 0x0C, 0xA0, 0x00, 0x00, 0x00, 0x87, 0x10, 0x02,
-        0xFF, 0x49, 0xFF, 0xFF, 0x89, 0x8A, 0x01, 0x05, 0x90, 0x00,
-    ];
-    answers(
-        &rt,
-        &mut slot,
-        &select(0x04, 0x04, &USIM[..7]),
-        &application,
-    );
-    answers(
-        &rt,
-        &mut slot,
-        &select(0x00, 0x0C, &[0x6F, 0x07]),
-        &[0x90, 0x00],
-    );
-    answers(
-        &rt,
-        &mut slot,
-        &select(0x00, 0x0C, &[0x7F, 0xFF]),
-        &[0x90, 0x00],
-    );
-    Ok(())
-}
-
-#[test]
-fn parameters_wait(rt: HostRuntime) -> Result<(), Fail> {
-    let alloc = rt.alloc();
-    let mut card = card(alloc)?;
-    card.get_response = true;
-    let mut slot = slot_of(alloc, card, &[])?;
-    slot.world(&WorldEvent::Insert(0)).or(Err("insert"))?;
-    answers(
-        &rt,
-        &mut slot,
-        &select(0x08, 0x04, &[0x2F, 0xE2]),
-        &[0x61, 0x11],
-    );
-    let card = slot.state().cards.get(0).ok_or("a card")?;
-    let waiting = card.waiting.as_ref().ok_or("bytes")?;
-    assert_eq!(rt; waiting.channel, 0);
-    assert_eq!(rt; waiting.bytes.as_slice(), PARAMETERS.as_slice());
-    answers(&rt, &mut slot, &profile(), &[0x90, 0x00]);
-    let card = slot.state().cards.get(0).ok_or("a card")?;
-    assert!(rt; card.waiting.is_none());
-    Ok(())
-}
-
-#[test]
-fn classes_and_parameters(rt: HostRuntime) -> Result<(), Fail> {
-    let alloc = rt.alloc();
-    let mut slot = slot_of(alloc, card(alloc)?, &[])?;
-    slot.world(&WorldEvent::Insert(0)).or(Err("insert"))?;
-    for (class, p1, word) in [
-        (0x04, 0x08, [0x6E, 0x00]),
-        (0x01, 0x08, [0x68, 0x81]),
-        (0x80, 0x08, [0x6E, 0x00]),
-        (0x00, 0x09, [0x6A, 0x86]),
-        (0x00, 0x08, [0x67, 0x00]),
-    ] {
-        let command = command(class, 0xA4, p1, 0x0C, &[0x2F], None);
-        answers(&rt, &mut slot, &command, &word);
-    }
-    let command = command(0x80, 0x10, 0x00, 0x01, &[0x01], None);
-    answers(&rt, &mut slot, &command, &[0x6A, 0x86]);
-    Ok(())
-}
-
 #[test]
 fn faults_and_a_reset(rt: HostRuntime) -> Result<(), Fail> {
     let alloc = rt.alloc();
@@ -421,7 +223,7 @@ fn world_events(rt: HostRuntime) -> Result<(), Fail> {
     Ok(())
 }
 
-// A slot after a card was put in, left bytes waiting, was reset and was taken out.
+// A slot after a card was put in, fetched a change, left bytes waiting, was reset and was taken out.
 fn played(alloc: Global, faults: &[Fault]) -> Result<SimSlot, Fail> {
     let mut card = card(alloc)?;
     card.get_response = true;
@@ -430,6 +232,8 @@ fn played(alloc: Global, faults: &[Fault]) -> Result<SimSlot, Fail> {
         &mut slot,
         &[
             Call::World(WorldEvent::Insert(0)),
+            Call::World(WorldEvent::Arm(0)),
+            Call::Exchange(command(0x80, 0x12, 0x00, 0x00, &[], Some(0x14))),
             Call::Exchange(select(0x08, 0x04, &[0x2F, 0xE2])),
             Call::Reset,
             Call::World(WorldEvent::Out),
@@ -443,10 +247,11 @@ fn calls_in_order(rt: HostRuntime) -> Result<(), Fail> {
     let alloc = rt.alloc();
     let mut slot = played(alloc, &[])?;
     let card = slot.state().cards.get(0).ok_or("a card")?;
+    assert_eq!(rt; card.files.len(), 2);
     assert!(rt; card.waiting.is_none());
     assert!(rt; slot.state().inside.is_none());
     assert!(rt; slot.exchange(&profile()).is_err());
-    let failed_reset = Fault { at: 2, acted: true };
+    let failed_reset = Fault { at: 3, acted: true };
     let slot = played(alloc, &[failed_reset])?;
     let card = slot.state().cards.get(0).ok_or("a card")?;
     assert!(rt; card.waiting.is_some());

@@ -1,11 +1,14 @@
 use apdu::Memory;
+use thiserror::Error;
 
 /// Why a field cannot be read.
-#[derive(Clone, Copy, Debug, PartialEq, Eq)]
+#[derive(Clone, Copy, Debug, PartialEq, Eq, Error)]
 pub enum FieldError {
     /// The file is damaged at the byte of this index, which is the file's length where it is too short.
+    #[error("damaged at byte {at}")]
     Malformed { at: usize },
     /// Memory ran out.
+    #[error("out of memory")]
     Memory,
 }
 

@@ -1,11 +1,11 @@
 -- What is written of an object is read back, whatever stands behind it.
-use Rattle.std.proofs.Common.{◌≡◌, ℕ, ◌+◌, Bool, true, false, List, ◌∷◌, ◌++◌, length, nat_lt, if◌then◌else◌, refl, ap, ◌∙◌, arith}
+use Rattle.std.proofs.Common.{◌≡◌, ℕ, ◌+◌, Bool, true, false, List, [], ◌∷◌, ◌++◌, length, nat_lt, if◌then◌else◌, None, refl, sym, ap, ◌∙◌, append-nil, arith}
 use Rattle.std.proofs.lemmas.List.{length-append}
 use Rattle.std.proofs.lemmas.Bool.{le-ltb}
 use Rattle.std.proofs.Math.Seq.{take-append_seam, drop-append_seam}
 use Rattle.tlv.specs.declared.object.TagByte.{TagByte}
 use Rattle.tlv.specs.declared.object.TagByte.TheVariants.{Begins}
-use Rattle.tlv.specs.Objects.{Parts, object, with_part, parts_by, parts_from, front, with_value, part_bytes}
+use Rattle.tlv.specs.Objects.{Parts, object, stopped, with_part, parts_by, parts_from, front, with_value, part_bytes}
 use Rattle.tlv.proofs.Fuel.{parts_from-front}
 
 -- the parts of all these bytes, which stand at index `at`
@@ -29,3 +29,8 @@ pub parts_at-written : (tag_of : ℕ → TagByte) (tag read at : ℕ) (value res
 parts_at-written tag_of tag read at value rest begins =
     parts_from-front tag_of at (part_bytes tag value ++ rest)
     ∙ ap (parts_by (parts_at tag_of)) (front-by_form tag_of tag read at value rest (nat_lt (length value) 0x80) begins refl)
+
+pub parts_at-last : (tag_of : ℕ → TagByte) (tag read at : ℕ) (value : List ℕ) → tag_of tag ≡ Begins read → parts_at tag_of at (part_bytes tag value) ≡ with_part read value (stopped None)
+parts_at-last tag_of tag read at value begins =
+    ap (parts_at tag_of at) (sym (append-nil (part_bytes tag value)))
+    ∙ parts_at-written tag_of tag read at value [] begins

@@ -1,6 +1,7 @@
 // Readers that hand out the objects of a source one by one.
-ghost use Rattle.std.specs.Prelude.{◌≡◌};
-ghost use Rattle.tlv.specs.Objects.{ber_parts, simple_parts, parts_of, stopped, tag_by, Hands};
+ghost use Rattle.std.specs.Prelude.{◌≡◌, None, Some, IfOk, IfErr, OnOk};
+ghost use Rattle.std.specs.Option.{option_copied};
+ghost use Rattle.tlv.specs.Objects.{ber_parts, simple_parts, parts_of, stopped, tag_by, value_of_tag, Hands};
 
 use crate::TlvError;
 use crate::object::{Form, front};
@@ -62,6 +63,20 @@ impl<'a> Cursor<'a> {
             }
         }
     }
+
+    fn first_value(mut self, tag: u8) -> Result<Option<&'a [u8]>, TlvError>
+        ensures whole { OnOk result (self.entry.damage ≡ None) }
+        ensures value { IfOk result (λ value. option_copied value ≡ value_of_tag tag self.entry.parts) }
+        ensures damage { IfErr result (λ error. self.entry.damage ≡ Some error) }
+    {
+        let mut first = None;
+        'objects: while let Some((found, value)) = self.next()? {
+            if found == tag && first.is_none() {
+                first = Some(value);
+            }
+        }
+        Ok(first)
+    }
 }
 
 /// Reads BER-TLV objects, ETSI TS 101 220 clause 7.1. A tag byte 00 or FF ends the reading.
@@ -94,6 +109,15 @@ impl<'a> BerReader<'a> {
     {
         self.cursor.next()
     }
+
+    /// The value of the first object of this tag. All objects that are left are read, and damage among them comes first.
+    pub fn first_value(self, tag: u8) -> Result<Option<&'a [u8]>, TlvError>
+        ensures whole { OnOk result (self.entry.damage ≡ None) }
+        ensures value { IfOk result (λ value. option_copied value ≡ value_of_tag tag self.entry.parts) }
+        ensures damage { IfErr result (λ error. self.entry.damage ≡ Some error) }
+    {
+        self.cursor.first_value(tag)
+    }
 }
 
 /// Reads objects of the simple form of ETSI TS 102 223, whose tags are handed out with bit 8 cleared.
@@ -125,5 +149,14 @@ impl<'a> SimpleReader<'a> {
         ensures { Hands self.old self.new result }
     {
         self.cursor.next()
+    }
+
+    /// The value of the first object of this tag. All objects that are left are read, and damage among them comes first.
+    pub fn first_value(self, tag: u8) -> Result<Option<&'a [u8]>, TlvError>
+        ensures whole { OnOk result (self.entry.damage ≡ None) }
+        ensures value { IfOk result (λ value. option_copied value ≡ value_of_tag tag self.entry.parts) }
+        ensures damage { IfErr result (λ error. self.entry.damage ≡ Some error) }
+    {
+        self.cursor.first_value(tag)
     }
 }

@@ -1,61 +1,65 @@
-// Objects read and written, by tables.
+// Objects read and written, by worked bytes.
 
 use super::*;
 use arrayvec::ArrayVec;
-use std::process::Abort;
+use std::alloc::Global;
 use std::test::Fail;
 
-/// How many objects are read before the end or an error, and the error.
-fn ber_outcome(bytes: &[u8]) -> (usize, Option<TlvError>) {
-    let mut reader = BerReader::new(bytes);
-    let mut count: usize = 0;
+/// A tag rule, bytes, and the objects that are read of them up to the end or an error.
+const OBJECTS: &str = "ber 800105A4810206079000:80 05;a4 0607;90 ;
+ber :
+ber 001F:
+ber 8000FF1F:80 ;
+ber 1F01058000:byte 0 is no tag that is read
+ber 80003F:80 ;byte 2 is no tag that is read
+ber 80:the object at byte 0 passes the end
+ber 8000800201:80 ;the object at byte 2 passes the end
+ber 80008081:80 ;the object at byte 2 passes the end
+ber 80810201:the object at byte 0 passes the end
+ber 808000:the length at byte 1 is neither one byte below 80 nor 81 and a byte
+ber 808101059082:80 05;the length at byte 5 is neither one byte below 80 nor 81 and a byte
+simple 8101050200FE00:01 05;02 ;7e ;
+simple 1F009F00:1f ;1f ;
+simple 010000:01 ;byte 2 is no tag that is read
+simple 7F00:byte 0 is no tag that is read
+simple 8000:byte 0 is no tag that is read
+simple FF00:byte 0 is no tag that is read";
+
+/// The objects of bytes by a tag rule, and the error that ends the reading.
+fn objects_text(alloc: Global, rule: &str, bytes: &[u8]) -> Result<String, Fail> {
+    let mut text = String::new(alloc);
+    let mut ber = BerReader::new(bytes);
+    let mut simple = SimpleReader::new(bytes);
     'objects: loop {
-        match reader.next() {
-            Ok(Some(_)) => count = count.saturating_add(1),
-            Ok(None) => return (count, None),
-            Err(error) => return (count, Some(error)),
+        let object = if rule == "ber" {
+            ber.next()
+        } else {
+            simple.next()
+        };
+        match object {
+            Ok(Some((tag, value))) => {
+                let value = hex::encode(alloc, value)?;
+                text.push_str(format!(in alloc; "{:02x} {};", tag, value.as_str())?.as_str())?;
+            }
+            Ok(None) => return Ok(text),
+            Err(error) => {
+                text.push_str(format!(in alloc; "{error}")?.as_str())?;
+                return Ok(text);
+            }
         }
     }
 }
 
-fn simple_outcome(bytes: &[u8]) -> (usize, Option<TlvError>) {
-    let mut reader = SimpleReader::new(bytes);
-    let mut count: usize = 0;
-    'objects: loop {
-        match reader.next() {
-            Ok(Some(_)) => count = count.saturating_add(1),
-            Ok(None) => return (count, None),
-            Err(error) => return (count, Some(error)),
-        }
+#[test]
+fn reads_objects(rt: HostRuntime) -> Result<(), Fail> {
+    for case in OBJECTS.lines() {
+        let (rule, rest) = case.split_once(' ').ok_or("a tag rule")?;
+        let (bytes, want) = rest.split_once(':').ok_or("bytes")?;
+        let bytes = hex::decode(rt.alloc(), bytes)?;
+        let found = objects_text(rt.alloc(), rule, &bytes)?;
+        assert_eq!(rt; found.as_str(), want, "at {case}");
     }
-}
-
-fn expect_outcome(
-    rt: &impl Abort,
-    outcome: (usize, Option<TlvError>),
-    count: usize,
-    error: Option<TlvError>,
-) {
-    assert_eq!(rt; outcome.0, count);
-    assert!(rt; outcome.1 == error);
-}
-
-#[test]
-fn reads_objects_of_both_forms_of_length(rt: HostRuntime) {
-    let mut reader = BerReader::new(&[0x80, 0x01, 0x05, 0xA4, 0x81, 0x02, 0x06, 0x07, 0x90, 0x00]);
-    assert!(rt; reader.next() == Ok(Some((0x80, [0x05].as_slice()))));
-    assert!(rt; reader.next() == Ok(Some((0xA4, [0x06, 0x07].as_slice()))));
-    assert!(rt; reader.next() == Ok(Some((0x90, [].as_slice()))));
-    assert!(rt; reader.next() == Ok(None));
-}
-
-#[test]
-fn hands_out_simple_tags_without_their_flag(rt: HostRuntime) {
-    let mut reader = SimpleReader::new(&[0x81, 0x01, 0x05, 0x02, 0x00, 0xFE, 0x00]);
-    assert!(rt; reader.next() == Ok(Some((0x01, [0x05].as_slice()))));
-    assert!(rt; reader.next() == Ok(Some((0x02, [].as_slice()))));
-    assert!(rt; reader.next() == Ok(Some((0x7E, [].as_slice()))));
-    assert!(rt; reader.next() == Ok(None));
+    Ok(())
 }
 
 #[test]
@@ -63,75 +67,6 @@ fn answers_none_after_an_error(rt: HostRuntime) {
     let mut reader = BerReader::new(&[0x1F, 0x01, 0x05, 0x80, 0x00]);
     assert!(rt; reader.next() == Err(TlvError::BadTag { at: 0 }));
     assert!(rt; reader.next() == Ok(None));
-}
-
-#[test]
-fn finds_the_place_of_damage(rt: HostRuntime) {
-    expect_outcome(&rt, ber_outcome(&[]), 0, None);
-    expect_outcome(&rt, ber_outcome(&[0x00, 0x1F]), 0, None);
-    expect_outcome(&rt, ber_outcome(&[0x80, 0x00, 0xFF, 0x1F]), 1, None);
-    expect_outcome(
-        &rt,
-        ber_outcome(&[0x80, 0x00, 0x3F]),
-        1,
-        Some(TlvError::BadTag { at: 2 }),
-    );
-    expect_outcome(&rt, ber_outcome(&[0x80]), 0, Some(TlvError::Cut { at: 0 }));
-    expect_outcome(
-        &rt,
-        ber_outcome(&[0x80, 0x00, 0x80, 0x02, 0x01]),
-        1,
-        Some(TlvError::Cut { at: 2 }),
-    );
-    expect_outcome(
-        &rt,
-        ber_outcome(&[0x80, 0x00, 0x80, 0x81]),
-        1,
-        Some(TlvError::Cut { at: 2 }),
-    );
-    expect_outcome(
-        &rt,
-        ber_outcome(&[0x80, 0x81, 0x02, 0x01]),
-        0,
-        Some(TlvError::Cut { at: 0 }),
-    );
-    expect_outcome(
-        &rt,
-        ber_outcome(&[0x80, 0x80, 0x00]),
-        0,
-        Some(TlvError::BadLength { at: 1 }),
-    );
-    expect_outcome(
-        &rt,
-        ber_outcome(&[0x80, 0x81, 0x01, 0x05, 0x90, 0x82]),
-        1,
-        Some(TlvError::BadLength { at: 5 }),
-    );
-    expect_outcome(&rt, simple_outcome(&[0x1F, 0x00, 0x9F, 0x00]), 2, None);
-    expect_outcome(
-        &rt,
-        simple_outcome(&[0x01, 0x00, 0x00]),
-        1,
-        Some(TlvError::BadTag { at: 2 }),
-    );
-    expect_outcome(
-        &rt,
-        simple_outcome(&[0x7F, 0x00]),
-        0,
-        Some(TlvError::BadTag { at: 0 }),
-    );
-    expect_outcome(
-        &rt,
-        simple_outcome(&[0x80, 0x00]),
-        0,
-        Some(TlvError::BadTag { at: 0 }),
-    );
-    expect_outcome(
-        &rt,
-        simple_outcome(&[0xFF, 0x00]),
-        0,
-        Some(TlvError::BadTag { at: 0 }),
-    );
 }
 
 #[test]

@@ -3,11 +3,11 @@ use Rattle.std.proofs.Common.{◌≡◌, ℕ, Bool, true, false, ◌&&◌, cond,
 use Rattle.std.proofs.lemmas.Option.{cond_some, option_and_then_some}
 use Rattle.std.proofs.lemmas.Bool.Decides.{nat_tests}
 use Rattle.apdu.specs.Words.{is_between}
-use Rattle.script.specs.declared.types.Script.{Script}
-use Rattle.script.specs.declared.types.CardSpec.{CardSpec}
-use Rattle.script.specs.declared.types.FileSpec.{FileSpec}
-use Rattle.script.specs.declared.types.KindSpec.{KindSpec}
-use Rattle.script.specs.declared.types.KindSpec.TheVariants.{Transparent, Linear}
+use Rattle.script_reader.specs.declared.types.Script.{Script}
+use Rattle.script_reader.specs.declared.types.CardSpec.{CardSpec}
+use Rattle.script_reader.specs.declared.types.FileSpec.{FileSpec}
+use Rattle.script_reader.specs.declared.types.KindSpec.{KindSpec}
+use Rattle.script_reader.specs.declared.types.KindSpec.TheVariants.{Transparent, Linear}
 use Rattle.uicc_replay.specs.First.{the_only, iccid_bytes, is_iccid, iccid_file, is_bare, card_file, is_plain, served_file, FitsFile}
 
 chosen : {A : Type 0} (b : Bool) (o : Option A) (y : A) → cond b o None ≡ Some y → o ≡ Some y

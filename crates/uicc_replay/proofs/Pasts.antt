@@ -11,7 +11,8 @@ use Rattle.uicc_replay.specs.declared.report.Line.{Line}
 use Rattle.uicc_replay.specs.declared.report.Line.TheVariants as line
 use Rattle.uicc_replay.specs.declared.report.Answer.{Answer}
 use Rattle.uicc_replay.specs.declared.report.Answer.TheVariants as answer
-use Rattle.uicc_replay.specs.Families.{records}
+use Rattle.uicc_replay.specs.declared.report.Family.{Family}
+use Rattle.uicc_replay.specs.declared.report.Family.TheVariants.{Records}
 use Rattle.uicc_replay.specs.History.{counted, event_count, world_after}
 use Rattle.uicc_replay.specs.Turns.{mark_count, scheduled_actor, open_operation, turn_actor, published_in_turn}
 use Rattle.uicc_replay.specs.Chains.{Final, final, is_unfinished}
@@ -35,7 +36,7 @@ same_list (x ∷ xs) = rw (same_number x) (same_list xs)
 no_answer : (s : FirstScript) (a : ℕ) (lines : List Line) → open_operation a lines ≡ None → due_answer s a lines ≡ None
 no_answer s a lines none = rw none refl
 
-loading : (s : FirstScript) (lines : List Line) → open_operation 1 lines ≡ Some 1 → published_in_turn records lines ≡ None → due_answer s 1 lines ≡ None
+loading : (s : FirstScript) (lines : List Line) → open_operation 1 lines ≡ Some 1 → published_in_turn Records lines ≡ None → due_answer s 1 lines ≡ None
 loading s lines begun none = rw (begun, none) refl
 
 same_one : (a : ℕ) → (1 == a) ≡ true → 1 ≡ a
@@ -160,7 +161,7 @@ starts a c = (a == 0) && ((c.ins == terminal_profile_ins) || ((c.ins == select_i
 unless_stale : (b : Bool) (v : ℕ) (settled before : Option ℕ) → b ≡ false → before ≡ None → ◌≡◌ {A = Option ℕ} (elim b [ true ↦ Some v | false ↦ unless_settled settled before ]) None
 unless_stale b v settled before fresh none = rw (fresh, none) refl
 
-no_stale : (s : FirstScript) (f : ℕ) (lines : List Line) (o : Option Final) (a : ℕ) (c : CommandValue) (r : ResponseValue) (n first : ℕ)
+no_stale : (s : FirstScript) (f : Family) (lines : List Line) (o : Option Final) (a : ℕ) (c : CommandValue) (r : ResponseValue) (n first : ℕ)
     → o ≡ Some (final_of a c r n first) → (c.ins == fetch_ins) ≡ false → (has_value (makes_stale_by f) o && is_wanted s f lines) ≡ false
 no_stale s f lines o a c r n first is fetches = rw (is, fetches) refl
 
@@ -261,7 +262,7 @@ past_moved s lines facts now h begun actor event = record {
 }
 
 pub past_published : (s : FirstScript) (lines : List Line) (facts : Facts) (now : InTurn) (text : List ℕ) → Past s lines facts now → facts.living ≡ true → text ≡ shown facts.world
-    → Past s (line.Published (facts.publications + 1) records facts.epoch facts.events text ∷ lines) (record facts { publications = facts.publications + 1 })
+    → Past s (line.Published (facts.publications + 1) Records facts.epoch facts.events text ∷ lines) (record facts { publications = facts.publications + 1 })
     (record now { publication = Some (facts.publications + 1) })
 past_published s lines facts now text h alive is = record {
   legal = rw (h.publications, h.living, alive, h.epoch, h.events, h.world, is, same_list (shown facts.world), same_number (facts.publications + 1), same_number facts.epoch, same_number facts.events) h.legal;
@@ -282,7 +283,7 @@ past_published s lines facts now text h alive is = record {
   announced = h.announced;
   response = h.response;
   reset = h.reset;
-  stale = λ f. ap (unless_settled (settled_since s f (line.Published (facts.publications + 1) records facts.epoch facts.events text ∷ lines))) (h.stale f);
+  stale = λ f. ap (unless_settled (settled_since s f (line.Published (facts.publications + 1) Records facts.epoch facts.events text ∷ lines))) (h.stale f);
 }
 
 pub past_loaded : (s : FirstScript) (lines : List Line) (facts : Facts) (now : InTurn) (k : ℕ) → Past s lines facts now → facts.begun ≡ Some 1 → now.actor ≡ Some 1 → now.publication ≡ Some k

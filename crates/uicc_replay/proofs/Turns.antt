@@ -17,6 +17,7 @@ use Rattle.uicc_replay.specs.declared.report.Line.TheVariants as line
 use Rattle.uicc_replay.specs.declared.report.Answer.TheVariants as answers
 use Rattle.uicc_replay.specs.declared.run.Stage.{Stage}
 use Rattle.uicc_replay.specs.declared.run.Stage.TheVariants.{Empty, Inserted, Profiled, Started, Loading, Done}
+use Rattle.uicc_replay.specs.declared.report.Family.TheVariants.{Records, Phonebook, Fixed}
 use Rattle.uicc_replay.specs.Families.{iccid_path}
 use Rattle.sim_codecs.specs.Digits.{iccid_of}
 use Rattle.uicc_replay.specs.History.{card_of, first_world, counted}
@@ -24,7 +25,7 @@ use Rattle.uicc_replay.specs.Legal.{are_legal_lines, is_legal_end}
 use Rattle.uicc_replay.specs.Turns.{mark_count, scheduled_actor}
 use Rattle.uicc_replay.specs.First.{FitsFile}
 use Rattle.uicc_replay.specs.Shown.{shown, records_text, digits_text}
-use Rattle.uicc_replay.specs.Run.{Facts, InTurn, marked, Past, StandsIn, Stands, Rests, Asks, facts_at, inside_world, size_in, body_at, left, moves, is_done, IsRound}
+use Rattle.uicc_replay.specs.Run.{Facts, InTurn, marked, Past, StandsIn, Stands, Rests, Asks, facts_at, inside_world, size_in, body_at, turns_left, turn_moves, is_last_stage, IsRound}
 use Rattle.uicc_replay.proofs.Pasts.{IsPlain, starts, lacks_none, past_turn, past_begin_insert, past_begin_load, past_exchange, past_insert, past_moved, past_published, past_loaded}
 use Rattle.uicc_replay.proofs.Steps.{profile_command, step_profile, usim_command, step_usim, select_command, step_select, size_read, read_command, step_read, step_missing, event_insert}
 
@@ -203,7 +204,7 @@ unfolding shown
 shown_of d current = refl
 
 pub to_done : (s : FirstScript) (slot : SimValue) (before l1 l2 : List Line) (n : ℕ) (found : Option (List ℕ)) (bytes text : List ℕ) → StandsIn s slot before n found (Loading 7) (marked 1)
-    → found ≡ Some bytes → text ≡ records_text (digits_text (iccid_of bytes)) → l1 ≡ line.Published 1 0 1 n text ∷ before → l2 ≡ line.Answered 1 1 (answers.Loaded 1) ∷ l1 → Stands s slot l2 n found Done
+    → found ≡ Some bytes → text ≡ records_text (digits_text (iccid_of bytes)) → l1 ≡ line.Published 1 Records 1 n text ∷ before → l2 ≡ line.Answered 1 1 (answers.Loaded 1) ∷ l1 → Stands s slot l2 n found Done
 to_done s slot before l1 l2 n found bytes text h there is e1 e2 =
     let same : bytes ≡ s.iccid_file = same_Some _ _ (sym there ∙ h.content) in
     let shows : text ≡ shown (inside_world s.iccid_file (Some iccid_path)) = is ∙ ap (λ (b : List ℕ). records_text (digits_text (iccid_of b))) same ∙ sym (shown_of s.iccid_file (Some iccid_path)) in
@@ -224,8 +225,8 @@ to_done s slot before l1 l2 n found bytes text h there is e1 e2 =
 
 -- ---- the beginning
 
-begun : (s : FirstScript) (slot : SimValue) → FitsFile s.iccid_file → slot ≡ empty_slot (card_of s.iccid_file ∷ []) [] [] → Stands s slot [] 0 None Empty
-begun s slot fits is = record {
+stands_first : (s : FirstScript) (slot : SimValue) → FitsFile s.iccid_file → slot ≡ empty_slot (card_of s.iccid_file ∷ []) [] [] → Stands s slot [] 0 None Empty
+stands_first s slot fits is = record {
   now = record { actor = None; event = None; publication = None };
   rests = inl refl;
   within = record {
@@ -261,24 +262,24 @@ begun s slot fits is = record {
 }
 
 pub to_begun : (s : FirstScript) (slot : SimValue) (lines : List Line) → FitsFile s.iccid_file → slot ≡ empty_slot (card_of s.iccid_file ∷ []) [] [] → lines ≡ [] → Stands s slot lines 0 None Empty
-to_begun s slot lines fits is none = subst (λ (ls : List Line). Stands s slot ls 0 None Empty) (sym none) (begun s slot fits is)
+to_begun s slot lines fits is none = subst (λ (ls : List Line). Stands s slot ls 0 None Empty) (sym none) (stands_first s slot fits is)
 
 -- ---- rounds
 
-no_farther : (b : Bool) (before after : Stage) → MatchBool b (left after < left before) (after ≡ before) → left after ≤ left before
+no_farther : (b : Bool) (before after : Stage) → MatchBool b (turns_left after < turns_left before) (after ≡ before) → turns_left after ≤ turns_left before
 no_farther true before after h = omega (arith, h)
-no_farther false before after h = subst (λ (k : Stage). left k ≤ left before) (sym h) (omega arith)
+no_farther false before after h = subst (λ (k : Stage). turns_left k ≤ turns_left before) (sym h) (omega arith)
 
-by_second : (old mid new : Stage) → left mid < left old → MatchBool (moves mid 1) (left new < left mid) (new ≡ mid) → left new < left old
-by_second old mid new h second = let le : left new ≤ left mid = no_farther (moves mid 1) mid new second in omega arith
+by_second : (old mid new : Stage) → turns_left mid < turns_left old → MatchBool (turn_moves mid 1) (turns_left new < turns_left mid) (new ≡ mid) → turns_left new < turns_left old
+by_second old mid new h second = let le : turns_left new ≤ turns_left mid = no_farther (turn_moves mid 1) mid new second in omega arith
 
-by_first : (old mid new : Stage) → moves old 1 ≡ true → mid ≡ old → MatchBool (moves mid 1) (left new < left mid) (new ≡ mid) → left new < left old
+by_first : (old mid new : Stage) → turn_moves old 1 ≡ true → mid ≡ old → MatchBool (turn_moves mid 1) (turns_left new < turns_left mid) (new ≡ mid) → turns_left new < turns_left old
 by_first old mid new h same second =
-    let here : MatchBool (moves old 1) (left new < left old) (new ≡ old) = subst (λ (k : Stage). MatchBool (moves k 1) (left new < left k) (new ≡ k)) same second in
-    subst (λ (b : Bool). MatchBool b (left new < left old) (new ≡ old)) h here
+    let here : MatchBool (turn_moves old 1) (turns_left new < turns_left old) (new ≡ old) = subst (λ (k : Stage). MatchBool (turn_moves k 1) (turns_left new < turns_left k) (new ≡ k)) same second in
+    subst (λ (b : Bool). MatchBool b (turns_left new < turns_left old) (new ≡ old)) h here
 
 -- a round of the framework and the actor comes nearer to the end
-pub nearer : (old mid new : Stage) → is_done old ≡ false → MatchBool (moves old 0) (left mid < left old) (mid ≡ old) → MatchBool (moves mid 1) (left new < left mid) (new ≡ mid) → left new < left old
+pub nearer : (old mid new : Stage) → is_last_stage old ≡ false → MatchBool (turn_moves old 0) (turns_left mid < turns_left old) (mid ≡ old) → MatchBool (turn_moves mid 1) (turns_left new < turns_left mid) (new ≡ mid) → turns_left new < turns_left old
 nearer Empty mid new going first second = by_first Empty mid new refl first second
 nearer Inserted mid new going first second = by_second Inserted mid new first second
 nearer Profiled mid new going first second = by_second Profiled mid new first second
@@ -321,9 +322,9 @@ round_begins s n is = record { behind = omega arith; even = omega arith }
 finished : (s : FirstScript) (slot : SimValue) (lines : List Line) (n : ℕ) (found : Option (List ℕ)) → Stands s slot lines n found Done → (are_legal_lines s Replay lines && is_legal_end s lines) ≡ true
 finished s slot lines n found h =
     let past = h.within.past in
-    rw (past.legal, lacks_none s lines (facts_at s Done) h.now past h.rests, past.answered, past.reset, past.living, past.startup, past.response, past.announced, past.stale 0, past.stale 1, past.stale 2) refl
+    rw (past.legal, lacks_none s lines (facts_at s Done) h.now past h.rests, past.answered, past.reset, past.living, past.startup, past.response, past.announced, past.stale Records, past.stale Phonebook, past.stale Fixed) refl
 
-pub to_legal : (s : FirstScript) (slot : SimValue) (lines : List Line) (n : ℕ) (found : Option (List ℕ)) (stage : Stage) → Stands s slot lines n found stage → is_done stage ≡ true
+pub to_legal : (s : FirstScript) (slot : SimValue) (lines : List Line) (n : ℕ) (found : Option (List ℕ)) (stage : Stage) → Stands s slot lines n found stage → is_last_stage stage ≡ true
     → (are_legal_lines s Replay lines && is_legal_end s lines) ≡ true
 to_legal s slot lines n found Empty h done = absurd (cc)
 to_legal s slot lines n found Inserted h done = absurd (cc)

@@ -1,19 +1,21 @@
 -- The families of files that are published, in that order, and the paths of each in order of reading.
 -- The files are those of the master file, 3GPP TS 31.102 clause 4.2 for the USIM, and DF_TELECOM.
-use Rattle.std.specs.Prelude.{ℕ, ◌==◌, if◌then◌else◌, List, [], ◌∷◌, Bool}
+use Rattle.std.specs.Prelude.{ℕ, ◌==◌, List, [], ◌∷◌, Bool}
 use Rattle.apdu.specs.Words.{path_is_in}
+use Rattle.uicc_replay.specs.declared.report.Family.{Family}
+use Rattle.uicc_replay.specs.declared.report.Family.TheVariants.{Records, Phonebook, Fixed}
 
-abbrev pub records : ℕ
-records = 0
+-- the number of a family in a script
+abbrev pub family_number : Family → ℕ
+family_number Records = 0
+family_number Phonebook = 1
+family_number Fixed = 2
 
-abbrev pub phonebook : ℕ
-phonebook = 1
+abbrev pub same_family : Family → Family → Bool
+same_family f g = family_number f == family_number g
 
-abbrev pub fixed : ℕ
-fixed = 2
-
-abbrev pub all_families : List ℕ
-all_families = records ∷ phonebook ∷ fixed ∷ []
+abbrev pub all_families : List Family
+all_families = Records ∷ Phonebook ∷ Fixed ∷ []
 
 abbrev pub iccid_path : List ℕ
 iccid_path = 0x2FE2 ∷ []
@@ -48,12 +50,10 @@ fdn_path = 0x7FFF ∷ 0x6F3B ∷ []
 abbrev pub ext2_path : List ℕ
 ext2_path = 0x7FFF ∷ 0x6F4B ∷ []
 
-abbrev pub family_paths : ℕ → List (List ℕ)
-family_paths f =
-    if f == records then iccid_path ∷ imsi_path ∷ ad_path ∷ spn_path ∷ msisdn_path ∷ ext5_path ∷ dir_path ∷ []
-    else if f == phonebook then adn_path ∷ ext1_path ∷ []
-    else if f == fixed then fdn_path ∷ ext2_path ∷ []
-    else []
+abbrev pub family_paths : Family → List (List ℕ)
+family_paths Records = iccid_path ∷ imsi_path ∷ ad_path ∷ spn_path ∷ msisdn_path ∷ ext5_path ∷ dir_path ∷ []
+family_paths Phonebook = adn_path ∷ ext1_path ∷ []
+family_paths Fixed = fdn_path ∷ ext2_path ∷ []
 
-abbrev pub has_path : ℕ → List ℕ → Bool
-has_path f path = path_is_in (family_paths f) path
+abbrev pub is_path_of_family : Family → List ℕ → Bool
+is_path_of_family f path = path_is_in (family_paths f) path

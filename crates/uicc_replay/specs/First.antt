@@ -2,14 +2,15 @@
 use Rattle.std.specs.Prelude.{◌≤◌, ℕ, ◌==◌, ◌&&◌, not, nat_le, Bool, false, if◌then◌else◌, List, [], ◌∷◌, length, Option, Some, None, is_none, option_map, option_and_then}
 use Rattle.std.specs.Option.{option_map_or}
 use Rattle.apdu.specs.Words.{same_bytes, is_between, is_empty}
-use Rattle.script.specs.declared.types.Script.{Script}
-use Rattle.script.specs.declared.types.CardSpec.{CardSpec}
-use Rattle.script.specs.declared.types.FileSpec.{FileSpec}
-use Rattle.script.specs.declared.types.KindSpec.{KindSpec}
-use Rattle.script.specs.declared.types.KindSpec.TheVariants.{Transparent, Linear}
-use Rattle.script.specs.declared.types.Operation.{Operation}
-use Rattle.script.specs.declared.types.Operation.TheVariants.{Insert, Load}
-use Rattle.uicc_replay.specs.Families.{iccid_path, records}
+use Rattle.script_reader.specs.declared.types.Script.{Script}
+use Rattle.script_reader.specs.declared.types.CardSpec.{CardSpec}
+use Rattle.script_reader.specs.declared.types.FileSpec.{FileSpec}
+use Rattle.script_reader.specs.declared.types.KindSpec.{KindSpec}
+use Rattle.script_reader.specs.declared.types.KindSpec.TheVariants.{Transparent, Linear}
+use Rattle.script_reader.specs.declared.types.Operation.{Operation}
+use Rattle.script_reader.specs.declared.types.Operation.TheVariants.{Insert, Load}
+use Rattle.uicc_replay.specs.declared.report.Family.TheVariants.{Records}
+use Rattle.uicc_replay.specs.Families.{family_number, iccid_path}
 use Rattle.uicc_replay.specs.declared.first.FirstScript.{FirstScript}
 
 -- the item of a list of one
@@ -39,7 +40,7 @@ card_file c = if is_bare c then option_and_then iccid_file (the_only c.files) el
 
 -- the card is put in, and the records are loaded
 abbrev pub inserts_and_loads : List Operation → Bool
-inserts_and_loads (Insert card ∷ Load family ∷ []) = (card == 0) && (family == records)
+inserts_and_loads (Insert card ∷ Load family ∷ []) = (card == 0) && (family == family_number Records)
 inserts_and_loads _ = false
 
 abbrev pub has_actor : Script → Bool
@@ -54,8 +55,8 @@ abbrev pub served_file : Script → Option (List ℕ)
 served_file s = if is_plain s then option_and_then card_file (the_only s.cards) else None
 
 -- a script that is served, by its file and its schedule
-unfoldable pub first_of : Script → Option FirstScript
-first_of s = option_map (λ bytes. record { iccid_file = bytes; schedule = s.schedule }) (served_file s)
+unfoldable pub served_script : Script → Option FirstScript
+served_script s = option_map (λ bytes. record { iccid_file = bytes; schedule = s.schedule }) (served_file s)
 
 -- the length of the file of such a script
 abbrev pub FitsFile : List ℕ → Type 0

@@ -16,8 +16,9 @@ use Rattle.uicc_replay.specs.declared.report.Mode.TheVariants.{Replay, Run}
 use Rattle.uicc_replay.specs.declared.report.Line.{Line}
 use Rattle.uicc_replay.specs.declared.report.Line.TheVariants as line
 use Rattle.uicc_replay.specs.declared.report.Report.{Report}
-use Rattle.uicc_replay.specs.Families.{records}
-use Rattle.uicc_replay.specs.First.{first_of}
+use Rattle.uicc_replay.specs.declared.report.Family.TheVariants.{Records}
+use Rattle.uicc_replay.specs.Families.{same_family}
+use Rattle.uicc_replay.specs.First.{served_script}
 use Rattle.uicc_replay.specs.History.{world_after, event_count, publication_count, epoch, epoch_lives}
 use Rattle.uicc_replay.specs.Turns.{Operation, insert, load, actor_count, mark_count, scheduled_actor, turn_actor, published_in_turn, event_in_turn, open_operation, operation_now}
 use Rattle.uicc_replay.specs.Open.{is_finished}
@@ -40,7 +41,7 @@ is_snapshot_right world text = same_bytes text (shown world)
 
 abbrev pub has_right_snapshot : FirstScript → Line → List Line → Bool
 has_right_snapshot s (line.Published k f e n text) earlier =
-    (k == publication_count earlier + 1) && epoch_lives earlier && (e == epoch earlier) && (n == event_count earlier) && (f == records)
+    (k == publication_count earlier + 1) && epoch_lives earlier && (e == epoch earlier) && (n == event_count earlier) && same_family f Records
     && is_snapshot_right (world_after s earlier) text
 has_right_snapshot s l earlier = true
 
@@ -113,4 +114,4 @@ is_legal_of (Some s) m lines = is_legal s m lines
 
 -- the script is one that is served
 abbrev pub legal : Report → Bool
-legal r = is_legal_of (first_of r.script) r.mode r.lines
+legal r = is_legal_of (served_script r.script) r.mode r.lines

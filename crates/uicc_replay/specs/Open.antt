@@ -5,7 +5,8 @@ use Rattle.apdu.specs.Values.{CommandValue, ResponseValue}
 use Rattle.apdu.specs.Words.{is_one_of, has_value, or_else}
 use Rattle.apdu.specs.Apdu.{select_ins, terminal_profile_ins, terminal_response_ins, fetch_ins, is_success, is_announcement, le_of_byte}
 use Rattle.refresh_cmd.specs.Values.{ProactiveValue}
-use Rattle.uicc_replay.specs.Families.{all_families, family_paths}
+use Rattle.uicc_replay.specs.declared.report.Family.{Family}
+use Rattle.uicc_replay.specs.Families.{same_family, all_families, family_paths}
 use Rattle.uicc_replay.specs.declared.first.FirstScript.{FirstScript}
 use Rattle.uicc_replay.specs.declared.report.Line.{Line}
 use Rattle.uicc_replay.specs.declared.report.Line.TheVariants as line
@@ -16,24 +17,24 @@ use Rattle.uicc_replay.specs.Readings.{handed_refresh, lists_path, refused_readi
 
 -- ---- wanted and stale families
 
-abbrev pub wants_by : FirstScript → ℕ → Line → Bool
+abbrev pub wants_by : FirstScript → Family → Line → Bool
 wants_by s f (line.Begin a i) = has_value (loads_family f) (operation_at s a i)
 wants_by s f _ = false
 
 -- some load of the family has begun
-abbrev pub is_wanted : FirstScript → ℕ → List Line → Bool
+abbrev pub is_wanted : FirstScript → Family → List Line → Bool
 is_wanted s f [] = false
 is_wanted s f (l ∷ earlier) = wants_by s f l || is_wanted s f earlier
 
 -- a REFRESH of all files, or of a listed file of the family
-abbrev pub names_family : ℕ → ProactiveValue → Bool
+abbrev pub names_family : Family → ProactiveValue → Bool
 names_family f p = is_one_of p.qualifier (0 ∷ 3 ∷ []) || list_any (λ path. lists_path path p) (family_paths f)
 
-abbrev pub makes_stale_by : ℕ → Final → Bool
+abbrev pub makes_stale_by : Family → Final → Bool
 makes_stale_by f c = has_value (names_family f) (handed_refresh c)
 
 -- the last line makes the family stale, which is wanted: an epoch began, or a FETCH handed over a REFRESH of it
-abbrev pub makes_stale : FirstScript → ℕ → List Line → Bool
+abbrev pub makes_stale : FirstScript → Family → List Line → Bool
 makes_stale s f [] = false
 makes_stale s f (l ∷ earlier) = (begins_epoch l || has_value (makes_stale_by f) (final (l ∷ earlier))) && is_wanted s f earlier
 
@@ -43,8 +44,8 @@ refused_among s lines [] = None
 refused_among s lines (path ∷ paths) = or_else (refused_reading s path lines) (refused_among s lines paths)
 
 -- the point since which the last line says the family was looked at: a publication's point, or where a refused reading began
-abbrev pub settled_since : FirstScript → ℕ → List Line → Option ℕ
-settled_since s f (line.Published k g e n text ∷ earlier) = if g == f then Some n else None
+abbrev pub settled_since : FirstScript → Family → List Line → Option ℕ
+settled_since s f (line.Published k g e n text ∷ earlier) = if same_family g f then Some n else None
 settled_since s f lines = refused_among s lines (family_paths f)
 
 -- stale since event v, until something later settles it
@@ -53,7 +54,7 @@ unless_settled settled None = None
 unless_settled settled (Some v) = if has_value (nat_lt v) settled then None else Some v
 
 -- the event since which the family is stale
-abbrev pub stale_since : FirstScript → ℕ → List Line → Option ℕ
+abbrev pub stale_since : FirstScript → Family → List Line → Option ℕ
 stale_since s f [] = None
 stale_since s f (l ∷ earlier) = elim (makes_stale s f (l ∷ earlier)) [
   | true ↦ Some (event_count (l ∷ earlier))
@@ -61,7 +62,7 @@ stale_since s f (l ∷ earlier) = elim (makes_stale s f (l ∷ earlier)) [
 ]
 
 -- the first stale family
-abbrev pub first_stale : FirstScript → List Line → Option ℕ
+abbrev pub first_stale : FirstScript → List Line → Option Family
 first_stale s lines = find (λ f. is_some (stale_since s f lines)) all_families
 
 -- ---- start-up: TERMINAL PROFILE, then SELECT of the USIM; any status of either ends that step

@@ -12,7 +12,8 @@ use Rattle.fcp.specs.Control.{read_fcp}
 use Rattle.refresh_cmd.specs.Values.{ProactiveValue}
 use Rattle.refresh_cmd.specs.declared.proactive.ProactiveError.{ProactiveError}
 use Rattle.refresh_cmd.specs.Proactive.{read_proactive, refresh_type}
-use Rattle.uicc_replay.specs.Families.{all_families, has_path, family_paths}
+use Rattle.uicc_replay.specs.declared.report.Family.{Family}
+use Rattle.uicc_replay.specs.Families.{all_families, is_path_of_family, family_paths}
 use Rattle.uicc_replay.specs.declared.first.FirstScript.{FirstScript}
 use Rattle.uicc_replay.specs.declared.report.Line.{Line}
 use Rattle.uicc_replay.specs.History.{begins_epoch, stops_epoch, selected_path}
@@ -38,14 +39,14 @@ abbrev pub moves_by_refresh : List ℕ → ProactiveValue → Bool
 moves_by_refresh path p = is_one_of p.qualifier (0 ∷ 3 ∷ 4 ∷ 5 ∷ 6 ∷ []) || lists_path path p
 
 -- the last line is an event that moves the path: what was read of it may be old
-abbrev pub moves : List ℕ → List Line → Bool
-moves path [] = false
-moves path (l ∷ earlier) = begins_epoch l || has_value (λ f. has_value (moves_by_refresh path) (handed_refresh f)) (final (l ∷ earlier))
+abbrev pub moves_path : List ℕ → List Line → Bool
+moves_path path [] = false
+moves_path path (l ∷ earlier) = begins_epoch l || has_value (λ f. has_value (moves_by_refresh path) (handed_refresh f)) (final (l ∷ earlier))
 
 -- what was read of the path does not count beyond the last line
-abbrev pub drops : List ℕ → List Line → Bool
-drops path [] = false
-drops path (l ∷ earlier) = stops_epoch l || moves path (l ∷ earlier)
+abbrev pub drops_reading : List ℕ → List Line → Bool
+drops_reading path [] = false
+drops_reading path (l ∷ earlier) = stops_epoch l || moves_path path (l ∷ earlier)
 
 -- ---- commands of a reading
 
@@ -81,9 +82,9 @@ pub record Progress : Type 0 where
   pub first_event : ℕ
 
 -- a SELECT that succeeded begins the reading anew
-abbrev pub begun : Final → Result Fcp FcpError → Option Progress
-begun f (Err e) = None
-begun f (Ok control) = if is_success f.response.sw then Some (record { control = control; done = 0; first_event = f.first_event }) else None
+abbrev pub begun_by_select : Final → Result Fcp FcpError → Option Progress
+begun_by_select f (Err e) = None
+begun_by_select f (Ok control) = if is_success f.response.sw then Some (record { control = control; done = 0; first_event = f.first_event }) else None
 
 -- a READ that succeeded takes it one further, and one that was refused ends it
 abbrev pub one_further : Final → Option Progress → Option Progress
@@ -96,14 +97,14 @@ is_read_of s path earlier f = (f.command.class == 0) && is_read_ins f.command.in
 
 -- some family has both paths
 abbrev pub is_in_same_family : List ℕ → List ℕ → Bool
-is_in_same_family a b = list_any (λ f. has_path f a && has_path f b) all_families
+is_in_same_family a b = list_any (λ f. is_path_of_family f a && is_path_of_family f b) all_families
 
-abbrev pub selects_path_of : ℕ → CommandValue → Bool
+abbrev pub selects_path_of : Family → CommandValue → Bool
 selects_path_of f c = list_any (λ p. same_bytes c.body (path_body p)) (family_paths f)
 
 -- a SELECT by path of a file in the path's family
 abbrev pub selects_in_family : List ℕ → CommandValue → Bool
-selects_in_family path c = (c.ins == select_ins) && (c.p1 == 0x08) && list_any (λ f. has_path f path && selects_path_of f c) all_families
+selects_in_family path c = (c.ins == select_ins) && (c.p1 == 0x08) && list_any (λ f. is_path_of_family f path && selects_path_of f c) all_families
 
 -- actor 0 turned to something else than the path's family, so that its reading begins anew
 abbrev pub leaves_family : FirstScript → List ℕ → List Line → Final → Bool
@@ -111,7 +112,7 @@ leaves_family s path earlier f = (f.actor == 0) && not (selects_in_family path f
 
 abbrev pub progress_by : FirstScript → List ℕ → List Line → Final → Option Progress → Option Progress
 progress_by s path earlier f before =
-    if is_select_of path f.command then begun f (read_fcp f.response.body)
+    if is_select_of path f.command then begun_by_select f (read_fcp f.response.body)
     else if is_read_of s path earlier f then one_further f before
     else if leaves_family s path earlier f then None
     else before
@@ -119,7 +120,7 @@ progress_by s path earlier f before =
 -- how far the actor's present job has read the path; none where it has not selected it so since it last moved
 abbrev pub progress : FirstScript → ℕ → List ℕ → List Line → Option Progress
 progress s actor path [] = None
-progress s actor path (l ∷ earlier) = elim (is_job_border actor l || drops path (l ∷ earlier)) [
+progress s actor path (l ∷ earlier) = elim (is_job_border actor l || drops_reading path (l ∷ earlier)) [
   | true ↦ None
   | false ↦ elim (final_by actor (l ∷ earlier)) [
     | None ↦ progress s actor path earlier
@@ -137,12 +138,12 @@ abbrev pub has_bad_fcp : Final → Bool
 has_bad_fcp f = is_reading_select f.command && is_success f.response.sw && not (is_ok (read_fcp f.response.body))
 
 -- a status that refuses the command; 6A82 to a reading's SELECT does not
-abbrev pub is_refused : Final → Bool
-is_refused f = is_refusal f.response.sw && not (is_reading_select f.command && (f.response.sw == file_not_found))
+abbrev pub refuses_reading : Final → Bool
+refuses_reading f = is_refusal f.response.sw && not (is_reading_select f.command && (f.response.sw == file_not_found))
 
 abbrev pub refuses_by : FirstScript → List ℕ → List Line → Final → Option ℕ
 refuses_by s path earlier f =
-    if is_select_of path f.command then (if is_refused f || wants_more f.response.sw || has_bad_fcp f then Some f.first_event else None)
+    if is_select_of path f.command then (if refuses_reading f || wants_more f.response.sw || has_bad_fcp f then Some f.first_event else None)
     else if is_read_of s path earlier f && not (is_success f.response.sw) then option_map (λ (p : Progress). p.first_event) (progress s f.actor path earlier)
     else None
 

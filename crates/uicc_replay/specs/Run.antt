@@ -16,7 +16,9 @@ use Rattle.uicc_replay.specs.declared.report.Line.TheVariants as line
 use Rattle.uicc_replay.specs.declared.run.Stage.{Stage}
 use Rattle.uicc_replay.specs.declared.run.Stage.TheVariants.{Empty, Inserted, Profiled, Started, Loading, Done}
 use Rattle.uicc_replay.specs.declared.run.Run.{Run}
-use Rattle.uicc_replay.specs.Families.{records, iccid_path}
+use Rattle.uicc_replay.specs.declared.report.Family.{Family}
+use Rattle.uicc_replay.specs.declared.report.Family.TheVariants.{Records}
+use Rattle.uicc_replay.specs.Families.{iccid_path}
 use Rattle.uicc_replay.specs.History.{card_of, first_world, world_after, event_count, publication_count, epoch, epoch_lives, owes_reset}
 use Rattle.uicc_replay.specs.Turns.{mark_count, scheduled_actor, turn_actor, event_in_turn, published_in_turn, open_operation, answered_count}
 use Rattle.uicc_replay.specs.Chains.{is_unfinished}
@@ -75,16 +77,16 @@ pub record Past (s : FirstScript) (lines : List Line) (facts : Facts) (now : InT
   pub answered : answered_count 1 lines ≡ facts.answered
   pub living : epoch_lives lines ≡ facts.living
   pub opened : open_operation 1 lines ≡ facts.begun
-  pub unwanted : facts.unwanted ≡ true → (f : ℕ) → is_wanted s f lines ≡ false
+  pub unwanted : facts.unwanted ≡ true → (f : Family) → is_wanted s f lines ≡ false
   pub actor : turn_actor lines ≡ now.actor
   pub event : event_in_turn lines ≡ now.event
-  pub publication : published_in_turn records lines ≡ now.publication
+  pub publication : published_in_turn Records lines ≡ now.publication
   pub others : (a : ℕ) → (1 == a) ≡ false → open_operation a lines ≡ None
   pub chain : is_unfinished lines ≡ false
   pub announced : announced lines ≡ None
   pub response : owes_response lines ≡ false
   pub reset : owes_reset lines ≡ false
-  pub stale : (f : ℕ) → stale_since s f lines ≡ None
+  pub stale : (f : Family) → stale_since s f lines ≡ None
 
 abbrev pub facts_at : FirstScript → Stage → Facts
 facts_at s Empty = record { world = world_at s Empty; events = 0; epoch = 0; publications = 0; startup = 0; answered = 0; living = false; begun = None; unwanted = true }
@@ -170,13 +172,13 @@ pub record Asks (slot new_slot : SimValue) (before after : List Line) (actor : �
   pub lines : after ≡ line.Exchange actor c r ∷ before
   pub faults : new_slot.plan.faults ≡ slot.plan.faults
 
-abbrev pub size_of : Result Fcp FcpError → ℕ
-size_of (Ok fcp) = fcp.size
-size_of (Err e) = 0
+abbrev pub size_by : Result Fcp FcpError → ℕ
+size_by (Ok fcp) = fcp.size
+size_by (Err e) = 0
 
 -- the size that control parameters name; 0 where they cannot be read
 abbrev pub size_in : List ℕ → ℕ
-size_in bytes = size_of (read_fcp bytes)
+size_in bytes = size_by (read_fcp bytes)
 
 -- the body of SELECT for the records' paths behind the first
 abbrev pub body_at : ℕ → List ℕ
@@ -191,30 +193,30 @@ body_at n =
 -- ---- turns
 
 -- how many turns that move are left, at most
-abbrev pub left : Stage → ℕ
-left Empty = 11
-left Inserted = 10
-left Profiled = 9
-left Started = 8
-left (Loading n) = 8 - n
-left Done = 0
+abbrev pub turns_left : Stage → ℕ
+turns_left Empty = 11
+turns_left Inserted = 10
+turns_left Profiled = 9
+turns_left Started = 8
+turns_left (Loading n) = 8 - n
+turns_left Done = 0
 
--- a turn of this actor moves
-abbrev pub moves : Stage → ℕ → Bool
-moves Empty actor = actor == 1
-moves Inserted actor = actor == 0
-moves Profiled actor = actor == 0
-moves Started actor = actor == 1
-moves (Loading n) actor = actor == 1
-moves Done actor = false
+-- a turn of this actor brings the run further
+abbrev pub turn_moves : Stage → ℕ → Bool
+turn_moves Empty actor = actor == 1
+turn_moves Inserted actor = actor == 0
+turn_moves Profiled actor = actor == 0
+turn_moves Started actor = actor == 1
+turn_moves (Loading n) actor = actor == 1
+turn_moves Done actor = false
 
-abbrev pub is_done : Stage → Bool
-is_done Empty = false
-is_done Inserted = false
-is_done Profiled = false
-is_done Started = false
-is_done (Loading n) = false
-is_done Done = true
+abbrev pub is_last_stage : Stage → Bool
+is_last_stage Empty = false
+is_last_stage Inserted = false
+is_last_stage Profiled = false
+is_last_stage Started = false
+is_last_stage (Loading n) = false
+is_last_stage Done = true
 
 -- the turn that comes next is this actor's
 abbrev pub IsNext : Run → ℕ → Type 0
@@ -227,11 +229,11 @@ pub record IsRound (s : FirstScript) (n : ℕ) : Type 0 where
 
 -- the run is at its end, or a round begins
 abbrev pub GoesRound : Run → Type 0
-GoesRound r = (is_done r.stage ≡ true) ⊎ IsRound r.script (mark_count r.lines)
+GoesRound r = (is_last_stage r.stage ≡ true) ⊎ IsRound r.script (mark_count r.lines)
 
 -- a turn leaves a run of the same script that stands, and comes nearer to the end where it moves
-pub record Turns (old new : Run) (actor : ℕ) : Type 0 where
+pub record TakesTurn (old new : Run) (actor : ℕ) : Type 0 where
   pub standing : IsStanding new
   pub script : new.script ≡ old.script
   pub marks : mark_count new.lines ≡ mark_count old.lines + 1
-  pub progress : MatchBool (moves old.stage actor) (left new.stage < left old.stage) (new.stage ≡ old.stage)
+  pub progress : MatchBool (turn_moves old.stage actor) (turns_left new.stage < turns_left old.stage) (new.stage ≡ old.stage)

@@ -1,23 +1,22 @@
 -- How a call of the program ends: its statuses, what each writes, and the cause of each.
-use Rattle.std.specs.Prelude.{◌≡◌, ◌<◌, ◌⊎◌, ℕ, ◌+◌, ◌-◌, ◌^◌, ◌==◌, min, List, [], ◌∷◌, ◌++◌, length, codes, decimal, Result, Ok, Err, Option, Some, None, IfSome, true, false, Bool, String, string_bytes, if◌then◌else◌}
+use Rattle.std.specs.Prelude.{◌≡◌, ◌⊎◌, ℕ, ◌==◌, List, [], ◌∷◌, ◌++◌, codes, decimal, Result, Ok, Err, Option, Some, None, true, false, Bool, String, string_bytes, if◌then◌else◌}
 use Rattle.std.specs.declared.alloc.Global.{Global}
 use Rattle.apdu.specs.Words.{same_bytes, is_one_of}
-use Rattle.apdu.specs.Stream.{Rose, Appends, AppendsPart}
+use Rattle.apdu.specs.Stream.{Rose, AppendsPart}
 use Rattle.apdu.specs.declared.texts.Text.{Text}
 use Rattle.apdu.specs.declared.memory.Memory.{Memory as MemoryError}
-use Rattle.script.specs.declared.types.Script.{Script}
-use Rattle.script.specs.Reading.{Refusal}
-use Rattle.script.specs.Words.{part_word, why_word}
-use Rattle.script.specs.Scripts.{script_of_bytes}
+use Rattle.script_reader.specs.declared.types.Script.{Script}
+use Rattle.script_reader.specs.Reading.{Refusal}
+use Rattle.script_reader.specs.Words.{part_word, why_word}
+use Rattle.script_reader.specs.Scripts.{script_of_bytes}
+use Rattle.streams.specs.Streams.{SourceValue, SinkValue, StreamsValue, HasMore, IsRead, WritesWhole, WritesFront, Wrote}
 use Rattle.uicc_replay.specs.declared.report.Mode.TheVariants.{Replay}
 use Rattle.uicc_replay.specs.declared.report.Report.{Report}
 use Rattle.uicc_replay.specs.declared.top.Ending.{Ending}
 use Rattle.uicc_replay.specs.declared.top.Ending.TheVariants.{Usage, TooLong, Refused, ReadFault, Memory, Replayed}
-use Rattle.uicc_replay.specs.declared.top.Input.{Input}
-use Rattle.uicc_replay.specs.declared.top.Input.TheVariants as input
 use Rattle.uicc_replay.specs.declared.top.Outcome.{Outcome}
 use Rattle.uicc_replay.specs.declared.first.FirstScript.{FirstScript}
-use Rattle.uicc_replay.specs.First.{first_of}
+use Rattle.uicc_replay.specs.First.{served_script}
 use Rattle.uicc_replay.specs.Legal.{legal}
 use Rattle.uicc_replay.specs.Texts.{report_text}
 
@@ -87,121 +86,120 @@ report_of ReadFault = None
 report_of Memory = None
 report_of (Replayed report text) = Some report
 
+-- ---- reading
+
+-- the most bytes that a script may have
+abbrev pub script_limit : ℕ
+script_limit = 8388608
+
 -- ---- causes
 
--- the source gave more than a script may have
-abbrev pub GaveMore : ℕ → ℕ → Type 0
-GaveMore given after = (n : ℕ) × (8388608 < n) × (after ≡ min (given + n) (2 ^ 64 - 1))
-
--- the source has more than a script may have
-pub record HasMore (left : Option (List ℕ)) (given after : ℕ) : Type 0 where
-  pub told : IfSome left (λ before. 8388608 < length before)
-  pub gave : GaveMore given after
-
 -- a script that uses more than is served so far is refused too
-abbrev pub refusal_unless : Option FirstScript → Option (List ℕ)
-refusal_unless None = Some later_line
-refusal_unless (Some first) = None
+abbrev pub line_unless_served : Option FirstScript → Option (List ℕ)
+line_unless_served None = Some later_line
+line_unless_served (Some served) = None
 
-abbrev pub refusal_of : Result Script Refusal → Option (List ℕ)
-refusal_of (Err refusal) = Some (refused_line refusal)
-refusal_of (Ok s) = refusal_unless (first_of s)
+abbrev pub line_of_reading : Result Script Refusal → Option (List ℕ)
+line_of_reading (Err refusal) = Some (refused_line refusal)
+line_of_reading (Ok s) = line_unless_served (served_script s)
 
--- how it is told that bytes are not replayed, if they are not
-abbrev pub told_of_bytes : List ℕ → Option (List ℕ)
-told_of_bytes bytes = refusal_of (script_of_bytes bytes)
+-- the line that tells why bytes are not replayed, if they are not
+abbrev pub refusal_line : List ℕ → Option (List ℕ)
+refusal_line bytes = line_of_reading (script_of_bytes bytes)
 
--- the line tells why bytes are not replayed
-abbrev pub Tells : List ℕ → List ℕ → Type 0
-Tells line bytes = told_of_bytes bytes ≡ Some line
-
--- the source was read to its end, and the line tells why its bytes are not replayed
-pub record Refuses (left : Option (List ℕ)) (at_end : Bool) (line : List ℕ) : Type 0 where
-  pub ended : at_end ≡ true
-  pub told : IfSome left (Tells line)
-  pub some : (bytes : List ℕ) × Tells line bytes
-
--- and that line was written
-pub record IsRefused (left : Option (List ℕ)) (at_end : Bool) (before after : Option (List ℕ)) : Type 0 where
-  pub line : List ℕ
-  pub refuses : Refuses left at_end line
-  pub written : Appends before after line
-
--- the source was read to its end, and its bytes are the report's script; the mode is replay, and the report is legal
-pub record Replays (left : Option (List ℕ)) (at_end : Bool) (r : Report) : Type 0 where
-  pub ended : at_end ≡ true
-  pub script : IfSome left (λ bytes. script_of_bytes bytes ≡ Ok r.script)
+-- the mode is replay, and the report is legal
+pub record IsLegalReplay (r : Report) : Type 0 where
   pub mode : r.mode ≡ Replay
   pub legal : legal r ≡ true
 
--- the cause of each ending: of the words, what the source had left, whether it was read to its end, how much it had given before and
--- after, and its faults before and after
-abbrev pub IsDue : Bool → Option (List ℕ) → Bool → ℕ → ℕ → ℕ → ℕ → Ending → Type 0
-IsDue replay left at_end given after faults failed Usage = replay ≡ false
-IsDue replay left at_end given after faults failed TooLong = (replay ≡ true) × HasMore left given after
-IsDue replay left at_end given after faults failed (Refused line) = (replay ≡ true) × Refuses left at_end line
-IsDue replay left at_end given after faults failed ReadFault = (replay ≡ true) × Rose faults failed
-IsDue replay left at_end given after faults failed Memory = replay ≡ true
-IsDue replay left at_end given after faults failed (Replayed report text) = (replay ≡ true) × Replays left at_end report × (text ≡ report_text report)
-
--- the report that the outcome holds is the replay of the source's bytes, and its text was written
-pub record IsReplayed (left : Option (List ℕ)) (at_end : Bool) (before after : Option (List ℕ)) (r : Report) : Type 0 where
-  pub replays : Replays left at_end r
-  pub text : Appends before after (report_text r)
-
--- a front was written of what an ending writes whose cause stood
-abbrev pub WritesPart : Bool → Option (List ℕ) → Bool → ℕ → ℕ → ℕ → ℕ → Option (List ℕ) → Option (List ℕ) → Type 0
-WritesPart replay left at_end given after faults failed before written = (e : Ending) × IsDue replay left at_end given after faults failed e × AppendsPart before written (piece_of e)
-
--- ---- reading
-
--- these are all the bytes that the source had left, and it was read to its end
-pub record ReadsAll (left : Option (List ℕ)) (at_end : Bool) (bytes : List ℕ) : Type 0 where
-  pub ended : at_end ≡ true
-  pub all : IfSome left (λ before. before ≡ bytes)
-
-abbrev pub Gives : Option (List ℕ) → Bool → ℕ → ℕ → ℕ → ℕ → Input → Type 0
-Gives left at_end given after faults failed (input.All bytes) = ReadsAll left at_end bytes.items
-Gives left at_end given after faults failed input.TooLong = HasMore left given after
-Gives left at_end given after faults failed input.Fault = Rose faults failed
-
--- the ending of bytes that were read
-abbrev pub IsDueOfBytes : List ℕ → Ending → Type 0
-IsDueOfBytes bytes Usage = ⊥
-IsDueOfBytes bytes TooLong = ⊥
-IsDueOfBytes bytes (Refused line) = Tells line bytes
-IsDueOfBytes bytes ReadFault = ⊥
-IsDueOfBytes bytes Memory = Unit {0}
-IsDueOfBytes bytes (Replayed report text) = (script_of_bytes bytes ≡ Ok report.script) × (report.mode ≡ Replay) × (legal report ≡ true) × (text ≡ report_text report)
-
 -- the ending of a line that tells why bytes are not replayed, where memory was left for it
-abbrev pub IsDueLine : Result Text MemoryError → Ending → Type 0
-IsDueLine (Ok line) e = e ≡ Refused line
-IsDueLine (Err error) e = e ≡ Memory
+abbrev pub IsDueOfLine : Result Text MemoryError → Ending → Type 0
+IsDueOfLine (Ok line) e = e ≡ Refused line
+IsDueOfLine (Err error) e = e ≡ Memory
 
 -- the ending of a script
 abbrev pub IsDueOfScript : Script → Ending → Type 0
 IsDueOfScript s Usage = ⊥
 IsDueOfScript s TooLong = ⊥
-IsDueOfScript s (Refused line) = refusal_unless (first_of s) ≡ Some line
+IsDueOfScript s (Refused line) = line_unless_served (served_script s) ≡ Some line
 IsDueOfScript s ReadFault = ⊥
 IsDueOfScript s Memory = Unit {0}
-IsDueOfScript s (Replayed report text) = (report.script ≡ s) × (report.mode ≡ Replay) × (legal report ≡ true) × (text ≡ report_text report)
+IsDueOfScript s (Replayed report text) = (report.script ≡ s) × IsLegalReplay report × (text ≡ report_text report)
+
+-- the ending of bytes that were read
+abbrev pub IsDueOfBytes : List ℕ → Ending → Type 0
+IsDueOfBytes bytes Usage = ⊥
+IsDueOfBytes bytes TooLong = ⊥
+IsDueOfBytes bytes (Refused line) = refusal_line bytes ≡ Some line
+IsDueOfBytes bytes ReadFault = ⊥
+IsDueOfBytes bytes Memory = Unit {0}
+IsDueOfBytes bytes (Replayed report text) = (script_of_bytes bytes ≡ Ok report.script) × IsLegalReplay report × (text ≡ report_text report)
+
+-- bytes were read of which this is the ending
+pub record IsDueOfRead (before after : SourceValue) (e : Ending) : Type 0 where
+  pub bytes : List ℕ
+  pub read : IsRead script_limit before after bytes
+  pub due : IsDueOfBytes bytes e
+
+-- the cause of each ending where the words are the command
+abbrev pub IsDueOfSource : SourceValue → SourceValue → Ending → Type 0
+IsDueOfSource before after Usage = ⊥
+IsDueOfSource before after TooLong = HasMore script_limit before after
+IsDueOfSource before after (Refused line) = IsDueOfRead before after (Refused line)
+IsDueOfSource before after ReadFault = Rose before.faults after.faults
+IsDueOfSource before after Memory = Unit {0}
+IsDueOfSource before after (Replayed report text) = IsDueOfRead before after (Replayed report text)
+
+-- words that are no command read nothing
+pub record IsUsage (before after : SourceValue) (e : Ending) : Type 0 where
+  pub ending : e ≡ Usage
+  pub unread : after ≡ before
+
+-- the cause of each ending, of the words and of what the source was before and after
+abbrev pub IsDue : Bool → SourceValue → SourceValue → Ending → Type 0
+IsDue true before after e = IsDueOfSource before after e
+IsDue false before after e = IsUsage before after e
+
+-- ---- what a call did
+
+-- the script that was read was replayed, and the report's text was written
+pub record IsReplayed (before after : StreamsValue) (r : Report) : Type 0 where
+  pub bytes : List ℕ
+  pub read : IsRead script_limit before.source after.source bytes
+  pub script : script_of_bytes bytes ≡ Ok r.script
+  pub replay : IsLegalReplay r
+  pub text : Wrote before after (report_text r)
+
+-- the line was written that tells why the bytes that were read are not replayed
+pub record IsRefused (before after : StreamsValue) : Type 0 where
+  pub bytes : List ℕ
+  pub read : IsRead script_limit before.source after.source bytes
+  pub line : List ℕ
+  pub told : refusal_line bytes ≡ Some line
+  pub text : Wrote before after line
+
+-- a front was written of what an ending writes whose cause stood
+pub record WritesPart (replay : Bool) (before after : StreamsValue) : Type 0 where
+  pub ending : Ending
+  pub due : IsDue replay before.source after.source ending
+  pub part : AppendsPart before.sink.written after.sink.written (piece_of ending)
 
 -- ---- writing
 
--- the piece was written whole
-pub record WritesWhole (code : ℕ) (held : Option Report) (piece : List ℕ) (before after : Option (List ℕ)) (o : Outcome) : Type 0 where
+-- the call ends with this status and this report, and the piece was written whole
+pub record EndsWhole (code : ℕ) (held : Option Report) (piece : List ℕ) (before after : SinkValue) (o : Outcome) : Type 0 where
   pub status : o.status ≡ code
   pub report : o.report ≡ held
-  pub whole : Appends before after piece
+  pub whole : WritesWhole before after piece
 
--- the sink failed behind a front of the piece
-pub record WritesFront (piece : List ℕ) (before after : Option (List ℕ)) (faults failed : ℕ) (o : Outcome) : Type 0 where
+-- the call ends with status 5 and no report, for the sink failed
+pub record EndsCut (piece : List ℕ) (before after : SinkValue) (o : Outcome) : Type 0 where
   pub status : o.status ≡ 5
   pub report : o.report ≡ None
-  pub part : AppendsPart before after piece
-  pub fault : Rose faults failed
+  pub front : WritesFront before after piece
 
-abbrev pub Ends : Ending → Option (List ℕ) → Option (List ℕ) → ℕ → ℕ → Outcome → Type 0
-Ends e before after faults failed o = WritesWhole (status_of e) (report_of e) (piece_of e) before after o ⊎ WritesFront (piece_of e) before after faults failed o
+abbrev pub Writes : ℕ → Option Report → List ℕ → SinkValue → SinkValue → Outcome → Type 0
+Writes code held piece before after o = EndsWhole code held piece before after o ⊎ EndsCut piece before after o
+
+abbrev pub Ends : Ending → SinkValue → SinkValue → Outcome → Type 0
+Ends e before after o = Writes (status_of e) (report_of e) (piece_of e) before after o

@@ -2,7 +2,9 @@
 use Rattle.std.specs.Prelude.{ℕ, ◌+◌, ◌-◌, ◌%◌, ◌==◌, ◌||◌, not, Bool, true, false, nat_lt, if◌then◌else◌, List, [], ◌∷◌, length, slice_get, Option, Some, None, option_and_then}
 use Rattle.std.specs.List.{list_all, range_with_len}
 use Rattle.card_model.specs.declared.world.WorldEvent.{WorldEvent}
-use Rattle.uicc_replay.specs.Families.{records}
+use Rattle.uicc_replay.specs.declared.report.Family.{Family}
+use Rattle.uicc_replay.specs.declared.report.Family.TheVariants.{Records}
+use Rattle.uicc_replay.specs.Families.{same_family}
 use Rattle.uicc_replay.specs.declared.first.FirstScript.{FirstScript}
 use Rattle.uicc_replay.specs.declared.report.Line.{Line}
 use Rattle.uicc_replay.specs.declared.report.Line.TheVariants as line
@@ -14,21 +16,21 @@ pub data Operation : Type 0 where
   -- the card of this number is put into the slot
   insert : ℕ → Operation
   -- the files of this family are read and published
-  load : ℕ → Operation
+  load : Family → Operation
 
 abbrev pub actor_count : FirstScript → ℕ
 actor_count s = 1
 
 -- the one actor puts the card in, and loads the records
 abbrev pub operations_of : FirstScript → ℕ → List Operation
-operations_of s actor = if actor == 1 then insert 0 ∷ load records ∷ [] else []
+operations_of s actor = if actor == 1 then insert 0 ∷ load Records ∷ [] else []
 
 abbrev pub operation_at : FirstScript → ℕ → ℕ → Option Operation
 operation_at s actor op = slice_get (operations_of s actor) op
 
-abbrev pub loads_family : ℕ → Operation → Bool
+abbrev pub loads_family : Family → Operation → Bool
 loads_family f (insert j) = false
-loads_family f (load g) = g == f
+loads_family f (load g) = same_family g f
 
 -- ---- turns
 
@@ -60,12 +62,12 @@ abbrev pub scheduled_actor : FirstScript → ℕ → ℕ
 scheduled_actor s n = scheduled_or (slice_get s.schedule n) ((n - length s.schedule) % (actor_count s + 1))
 
 -- the publication of this family in the last turn
-abbrev pub published_in_turn_by : ℕ → Line → Option ℕ → Option ℕ
+abbrev pub published_in_turn_by : Family → Line → Option ℕ → Option ℕ
 published_in_turn_by f (line.Turn a) before = None
-published_in_turn_by f (line.Published k g e n text) before = if g == f then Some k else before
+published_in_turn_by f (line.Published k g e n text) before = if same_family g f then Some k else before
 published_in_turn_by f l before = before
 
-abbrev pub published_in_turn : ℕ → List Line → Option ℕ
+abbrev pub published_in_turn : Family → List Line → Option ℕ
 published_in_turn f [] = None
 published_in_turn f (l ∷ earlier) = published_in_turn_by f l (published_in_turn f earlier)
 

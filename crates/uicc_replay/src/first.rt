@@ -125,9 +125,9 @@ fn served_file(script: &Script) -> Option<&[u8]>
 }
 
 /// The script, unless it uses more than is served.
-#[tactic(auto, unfolding(crate::specs::First::first_of))]
-pub fn first_of(alloc: Global, script: &Script) -> Result<Option<FirstScript>, Memory>
-    ensures value { IfOk result (λ first. first ≡ spec.first_of script.now) }
+#[tactic(auto, unfolding(crate::specs::First::served_script))]
+pub fn served_script(alloc: Global, script: &Script) -> Result<Option<FirstScript>, Memory>
+    ensures value { IfOk result (λ first. first ≡ spec.served_script script.now) }
     ensures fits { IfOk result (λ first. IfSome first (λ s. spec.FitsFile s.iccid_file)) }
 {
     let Some(bytes) = served_file(script) else {

@@ -13,14 +13,17 @@ mod top;
 use apdu::{ReaderSource, WriterSink};
 use std::process::ExitCode;
 use std::{env, io};
+use streams::Streams;
 
 fn main(rt: HostRuntime) -> io::Result<ExitCode> {
     let mut words = Vec::new(rt.alloc());
     for word in env::args(&rt)?.skip(1) {
         words.push(word)?;
     }
-    let mut source = ReaderSource::new(rt.stdin());
-    let mut sink = WriterSink::new(rt.stdout());
-    let outcome = top::top(rt.alloc(), words.as_slice(), &mut source, &mut sink);
+    let mut streams = Streams {
+        source: ReaderSource::new(rt.stdin()),
+        sink: WriterSink::new(rt.stdout()),
+    };
+    let outcome = top::top(rt.alloc(), words.as_slice(), &mut streams);
     Ok(ExitCode::from(outcome.status))
 }

@@ -14,6 +14,14 @@ pub enum Mode {
     Run,
 }
 
+/// A family of files that is published.
+#[derive(Clone, Copy)]
+pub enum Family {
+    Records,
+    Phonebook,
+    Fixed,
+}
+
 /// What an operation was answered.
 #[derive(Clone, Copy, Debug, PartialEq, Eq)]
 pub enum Answer {
@@ -64,7 +72,7 @@ pub enum Line {
     /// what is shown as JSON.
     Published {
         number: u64,
-        family: u8,
+        family: Family,
         epoch: u64,
         point: u64,
         content: Text,
@@ -76,8 +84,8 @@ pub enum Line {
         event: u64,
     },
     /// The framework's reading of a family was refused by this event.
-    Refused {
-        family: u8,
+    ReadingRefused {
+        family: Family,
         event: u64,
     },
     /// An operation is answered.

@@ -7,10 +7,10 @@ ghost use Rattle.uicc_replay.specs.First.{FitsFile};
 ghost use Rattle.uicc_replay.specs.History.{card_of};
 ghost use Rattle.uicc_replay.specs.Legal.{is_legal};
 ghost use Rattle.uicc_replay.specs.Turns.{mark_count};
-ghost use Rattle.uicc_replay.specs.Run.{IsStanding, IsMarked, IsNext, IsRound, GoesRound, Marks, Selects, Reaches, Turns, Asks, size_in, body_at, left, is_done as is_last};
+ghost use Rattle.uicc_replay.specs.Run.{IsStanding, IsMarked, IsNext, IsRound, GoesRound, Marks, Selects, Reaches, TakesTurn, Asks, size_in, body_at, turns_left, is_last_stage};
 
 use crate::first::FirstScript;
-use crate::report::{Answer, Line, Lines, Mode};
+use crate::report::{Answer, Family, Line, Lines, Mode};
 use crate::text::records_content;
 use apdu::{Bytes, Command, Memory, Path, Response, Sequence};
 use arrayvec::ArrayVec;
@@ -112,7 +112,7 @@ fn path_body(at: u8) -> ArrayVec<u8, 4>
 }
 
 /// The size that the control parameters in a response name.
-fn size_of(response: &Response) -> u16
+fn named_size(response: &Response) -> u16
     ensures { result ≡ size_in response.now.body }
 {
     match read_fcp(response.body.as_slice()) {
@@ -174,7 +174,7 @@ impl Run {
         self.lines.push(Line::Begin { actor: 1, op: 1 })?;
         let selects = command_of(0x00, 0xA4, 0x08, 0x04, &[0x2F, 0xE2], Some(256));
         let response = ask(&mut self.slot, &mut self.lines, 1, selects)?;
-        let size = size_of(&response);
+        let size = named_size(&response);
         let reads = command_of(0x00, 0xB0, 0x00, 0x00, &[], Some(size));
         let response = ask(&mut self.slot, &mut self.lines, 1, reads)?;
         self.iccid_file = Some(Bytes::from_slice(alloc, response.body.as_slice())?);
@@ -208,7 +208,7 @@ impl Run {
         };
         self.lines.push(Line::Published {
             number: 1,
-            family: 0,
+            family: Family::Records,
             epoch: 1,
             point: self.events,
             content,
@@ -228,7 +228,7 @@ impl Run {
         ensures standing { OnOk result (IsStanding self.new) }
         ensures script { OnOk result (self.new.script ≡ self.old.script) }
         ensures marks { OnOk result (mark_count self.new.lines ≡ mark_count self.old.lines) }
-        ensures nearer { OnOk result (left self.new.stage < 8 - at) }
+        ensures nearer { OnOk result (turns_left self.new.stage < 8 - at) }
     {
         if at < 6 {
             return self.select_next(at);
@@ -253,7 +253,7 @@ impl Run {
     fn turn(&mut self, alloc: Global, actor: u8) -> Result<(), Memory>
         requires standing { IsStanding self.old }
         requires next { IsNext self.old actor }
-        ensures { OnOk result (Turns self.old self.new actor) }
+        ensures { OnOk result (TakesTurn self.old self.new actor) }
     {
         self.mark(actor)?;
         match self.stage {
@@ -278,7 +278,7 @@ impl Run {
     }
 
     fn is_done(&self) -> bool
-        ensures { result ≡ is_last self.now.stage }
+        ensures { result ≡ is_last_stage self.now.stage }
     {
         self.stage == Stage::Done
     }
@@ -286,12 +286,12 @@ impl Run {
     /// A turn of the framework, and one of the actor unless the run is done.
     fn round(&mut self, alloc: Global) -> Result<(), Memory>
         requires standing { IsStanding self.old }
-        requires going { is_last self.old.stage ≡ false }
+        requires going { is_last_stage self.old.stage ≡ false }
         requires round { IsRound self.old.script (mark_count self.old.lines) }
         ensures standing { OnOk result (IsStanding self.new) }
         ensures script { OnOk result (self.new.script ≡ self.old.script) }
         ensures round { OnOk result (GoesRound self.new) }
-        ensures nearer { OnOk result (left self.new.stage < left self.old.stage) }
+        ensures nearer { OnOk result (turns_left self.new.stage < turns_left self.old.stage) }
     {
         self.turn(alloc, 0)?;
         if !self.is_done() {
@@ -323,7 +323,7 @@ impl Run {
         requires standing { IsStanding self.old }
         requires round { GoesRound self.old }
         ensures standing { OnOk result (IsStanding self.new) }
-        ensures done { OnOk result (is_last self.new.stage ≡ true) }
+        ensures done { OnOk result (is_last_stage self.new.stage ≡ true) }
         ensures script { OnOk result (self.new.script ≡ self.old.script) }
     {
         'rounds: while !self.is_done() {
@@ -379,7 +379,7 @@ fn slot_of(alloc: Global, iccid_file: &[u8]) -> Result<SimSlot, Memory>
     SimSlot::new(alloc, images, Sequence::new(alloc), Sequence::new(alloc))
 }
 
-fn begin(alloc: Global, script: FirstScript) -> Result<Run, Memory>
+fn new_run(alloc: Global, script: FirstScript) -> Result<Run, Memory>
     requires { FitsFile script.iccid_file }
     ensures standing { IfOk result IsStanding }
     ensures script { IfOk result (λ r. r.script ≡ script) }
@@ -395,12 +395,13 @@ fn begin(alloc: Global, script: FirstScript) -> Result<Run, Memory>
     })
 }
 
-/// The lines of a legal run of the script, whose turns follow the schedule and then go round from the framework on.
-pub fn replay(alloc: Global, script: FirstScript) -> Result<Lines, Memory>
+/// The lines of a legal run of the script, whose turns follow the schedule and then go round from
+/// the framework on.
+pub fn replayed_lines(alloc: Global, script: FirstScript) -> Result<Lines, Memory>
     requires { FitsFile script.iccid_file }
     ensures { IfOk result (λ lines. is_legal script Mode.Replay lines ≡ true) }
 {
-    let mut run = begin(alloc, script)?;
+    let mut run = new_run(alloc, script)?;
     run.by_schedule(alloc)?;
     run.to_the_end(alloc)?;
     Ok(lines_of(run))
@@ -408,7 +409,7 @@ pub fn replay(alloc: Global, script: FirstScript) -> Result<Lines, Memory>
 
 fn lines_of(run: Run) -> Lines
     requires standing { IsStanding run }
-    requires done { is_last run.stage ≡ true }
+    requires done { is_last_stage run.stage ≡ true }
     ensures { is_legal run.script Mode.Replay result ≡ true }
 {
     let Run {

@@ -1,13 +1,13 @@
 // The text of a report.
-ghost use Rattle.std.specs.Prelude.{◌≡◌, ◌++◌, reverse, decimal, string_bytes, OnOk, IfOk};
+ghost use Rattle.std.specs.Prelude.{◌≡◌, ◌++◌, reverse, decimal, OnOk, IfOk};
 ghost use Rattle.hex.specs.Hex.{encode_upper};
 ghost use Rattle.sim_codecs.specs.Digits.{iccid_of};
 ghost use Rattle.uicc_replay.specs.Shown.{quoted_text, bad_text, digits_text, records_text};
-ghost use Rattle.uicc_replay.specs.Texts.{answer_text, event_text, family_text, acted_text, command_text, response_text, snapshot_text, event_words, other_words, line_text, lines_text, mode_text, report_text};
+ghost use Rattle.uicc_replay.specs.Texts.{Puts, answer_text, event_text, family_text, acted_text, command_text, response_text, snapshot_text, line_words, line_text, lines_text, mode_text, report_text};
 ghost use Rattle.uicc_replay.specs.Top.{refused_line};
-ghost use Rattle.script.specs.Reading.{refusal};
+ghost use Rattle.script_reader.specs.Reading.{refusal};
 
-use crate::report::{Answer, Line, Mode, Report};
+use crate::report::{Answer, Family, Line, Mode, Report};
 use apdu::{Command, Memory, Response, Text};
 use card_model::WorldEvent;
 use script::{Part, Why, write_script};
@@ -15,14 +15,14 @@ use sim_codecs::{FieldError, iccid};
 use std::alloc::Global;
 
 fn put(out: &mut String, text: &str) -> Result<(), Memory>
-    ensures { OnOk result (string_bytes out.new ≡ string_bytes out.old ++ text.now) }
+    ensures { OnOk result (Puts out.old out.new text.now) }
 {
     out.push_str(text)?;
     Ok(())
 }
 
 fn put_number(alloc: Global, out: &mut String, number: u64) -> Result<(), Memory>
-    ensures { OnOk result (string_bytes out.new ≡ string_bytes out.old ++ decimal number) }
+    ensures { OnOk result (Puts out.old out.new (decimal number)) }
 {
     let text = number.to_string(alloc)?;
     out.push_str(text.as_str())?;
@@ -30,7 +30,7 @@ fn put_number(alloc: Global, out: &mut String, number: u64) -> Result<(), Memory
 }
 
 fn put_hex(alloc: Global, out: &mut String, bytes: &[u8]) -> Result<(), Memory>
-    ensures { OnOk result (string_bytes out.new ≡ string_bytes out.old ++ encode_upper bytes.now) }
+    ensures { OnOk result (Puts out.old out.new (encode_upper bytes.now)) }
 {
     let text = hex::encode_upper(alloc, bytes)?;
     out.push_str(text.as_str())?;
@@ -38,14 +38,14 @@ fn put_hex(alloc: Global, out: &mut String, bytes: &[u8]) -> Result<(), Memory>
 }
 
 fn put_numbered(alloc: Global, out: &mut String, word: &str, number: u64) -> Result<(), Memory>
-    ensures { OnOk result (string_bytes out.new ≡ string_bytes out.old ++ word.now ++ decimal number) }
+    ensures { OnOk result (Puts out.old out.new (word.now ++ decimal number)) }
 {
     put(out, word)?;
     put_number(alloc, out, number)
 }
 
 fn put_answer(alloc: Global, out: &mut String, answer: Answer) -> Result<(), Memory>
-    ensures { OnOk result (string_bytes out.new ≡ string_bytes out.old ++ answer_text answer) }
+    ensures { OnOk result (Puts out.old out.new (answer_text answer)) }
 {
     match answer {
         Answer::Moved => put(out, " moved"),
@@ -54,7 +54,7 @@ fn put_answer(alloc: Global, out: &mut String, answer: Answer) -> Result<(), Mem
 }
 
 fn put_event(alloc: Global, out: &mut String, event: WorldEvent) -> Result<(), Memory>
-    ensures { OnOk result (string_bytes out.new ≡ string_bytes out.old ++ event_text event) }
+    ensures { OnOk result (Puts out.old out.new (event_text event)) }
 {
     match event {
         WorldEvent::Arm(change) => put_numbered(alloc, out, " arm ", change as u64),
@@ -63,20 +63,18 @@ fn put_event(alloc: Global, out: &mut String, event: WorldEvent) -> Result<(), M
     }
 }
 
-fn put_family(out: &mut String, family: u8) -> Result<(), Memory>
-    ensures { OnOk result (string_bytes out.new ≡ string_bytes out.old ++ family_text family) }
+fn put_family(out: &mut String, family: Family) -> Result<(), Memory>
+    ensures { OnOk result (Puts out.old out.new (family_text family)) }
 {
-    if family == 0 {
-        return put(out, " records");
+    match family {
+        Family::Records => put(out, " records"),
+        Family::Phonebook => put(out, " phonebook"),
+        Family::Fixed => put(out, " fixed"),
     }
-    if family == 1 {
-        return put(out, " phonebook");
-    }
-    put(out, " fixed")
 }
 
 fn put_acted(out: &mut String, acted: bool) -> Result<(), Memory>
-    ensures { OnOk result (string_bytes out.new ≡ string_bytes out.old ++ acted_text acted) }
+    ensures { OnOk result (Puts out.old out.new (acted_text acted)) }
 {
     if acted {
         put(out, " 1")
@@ -86,14 +84,14 @@ fn put_acted(out: &mut String, acted: bool) -> Result<(), Memory>
 }
 
 fn put_command(alloc: Global, out: &mut String, command: &Command) -> Result<(), Memory>
-    ensures { OnOk result (string_bytes out.new ≡ string_bytes out.old ++ command_text command.now) }
+    ensures { OnOk result (Puts out.old out.new (command_text command.now)) }
 {
     put(out, " ")?;
     put_hex(alloc, out, command.write().as_slice())
 }
 
 fn put_response(alloc: Global, out: &mut String, response: &Response) -> Result<(), Memory>
-    ensures { OnOk result (string_bytes out.new ≡ string_bytes out.old ++ response_text response.now) }
+    ensures { OnOk result (Puts out.old out.new (response_text response.now)) }
 {
     put(out, " ")?;
     put_hex(alloc, out, response.write().as_slice())
@@ -106,7 +104,7 @@ fn put_snapshot(
     point: u64,
     content: &Text,
 ) -> Result<(), Memory>
-    ensures { OnOk result (string_bytes out.new ≡ string_bytes out.old ++ snapshot_text epoch point content.now) }
+    ensures { OnOk result (Puts out.old out.new (snapshot_text epoch point content.now)) }
 {
     put_numbered(alloc, out, " ", epoch)?;
     put_numbered(alloc, out, " ", point)?;
@@ -114,93 +112,153 @@ fn put_snapshot(
     put(out, content.as_str())
 }
 
-/// The words of a line that sends a command, resets the card or makes a world event happen.
-fn put_event_words(alloc: Global, out: &mut String, line: &Line) -> Result<(), Memory>
-    ensures { OnOk result (string_bytes out.new ≡ string_bytes out.old ++ event_words line.now) }
+fn put_begin(alloc: Global, out: &mut String, actor: u8, op: u32) -> Result<(), Memory>
+    ensures { OnOk result (Puts out.old out.new (line_words (Line.Begin actor op))) }
+{
+    put_numbered(alloc, out, "b ", actor as u64)?;
+    put_numbered(alloc, out, " ", op as u64)
+}
+
+fn put_exchange(
+    alloc: Global,
+    out: &mut String,
+    actor: u8,
+    command: &Command,
+    response: &Response,
+) -> Result<(), Memory>
+    ensures { OnOk result (Puts out.old out.new
+        (line_words (Line.Exchange actor command.now response.now))) }
+{
+    put_numbered(alloc, out, "x ", actor as u64)?;
+    put_command(alloc, out, command)?;
+    put_response(alloc, out, response)
+}
+
+fn put_failed(
+    alloc: Global,
+    out: &mut String,
+    actor: u8,
+    command: &Command,
+    acted: bool,
+) -> Result<(), Memory>
+    ensures { OnOk result (Puts out.old out.new
+        (line_words (Line.Failed actor command.now acted))) }
+{
+    put_numbered(alloc, out, "f ", actor as u64)?;
+    put_command(alloc, out, command)?;
+    put_acted(out, acted)
+}
+
+fn put_world(alloc: Global, out: &mut String, actor: u8, event: WorldEvent) -> Result<(), Memory>
+    ensures { OnOk result (Puts out.old out.new (line_words (Line.World actor event))) }
+{
+    put_numbered(alloc, out, "w ", actor as u64)?;
+    put_event(alloc, out, event)
+}
+
+fn put_published(
+    alloc: Global,
+    out: &mut String,
+    number: u64,
+    family: Family,
+    epoch: u64,
+    point: u64,
+    content: &Text,
+) -> Result<(), Memory>
+    ensures { OnOk result (Puts out.old out.new
+        (line_words (Line.Published number family epoch point content.now))) }
+{
+    put_numbered(alloc, out, "p ", number)?;
+    put_family(out, family)?;
+    put_snapshot(alloc, out, epoch, point, content)
+}
+
+fn put_epoch_end(
+    alloc: Global,
+    out: &mut String,
+    number: u64,
+    epoch: u64,
+    event: u64,
+) -> Result<(), Memory>
+    ensures { OnOk result (Puts out.old out.new (line_words (Line.EpochEnd number epoch event))) }
+{
+    put_numbered(alloc, out, "z ", number)?;
+    put_numbered(alloc, out, " ", epoch)?;
+    put_numbered(alloc, out, " ", event)
+}
+
+fn put_reading_refused(
+    alloc: Global,
+    out: &mut String,
+    family: Family,
+    event: u64,
+) -> Result<(), Memory>
+    ensures { OnOk result (Puts out.old out.new (line_words (Line.ReadingRefused family event))) }
+{
+    put(out, "d")?;
+    put_family(out, family)?;
+    put_numbered(alloc, out, " ", event)
+}
+
+fn put_answered(
+    alloc: Global,
+    out: &mut String,
+    actor: u8,
+    op: u32,
+    answer: Answer,
+) -> Result<(), Memory>
+    ensures { OnOk result (Puts out.old out.new (line_words (Line.Answered actor op answer))) }
+{
+    put_numbered(alloc, out, "a ", actor as u64)?;
+    put_numbered(alloc, out, " ", op as u64)?;
+    put_answer(alloc, out, answer)
+}
+
+fn put_words(alloc: Global, out: &mut String, line: &Line) -> Result<(), Memory>
+    ensures { OnOk result (Puts out.old out.new (line_words line.now)) }
 {
     match line {
+        Line::Turn { actor } => put_numbered(alloc, out, "t ", *actor as u64),
+        Line::Begin { actor, op } => put_begin(alloc, out, *actor, *op),
         Line::Exchange {
             actor,
             command,
             response,
-        } => {
-            put_numbered(alloc, out, "x ", *actor as u64)?;
-            put_command(alloc, out, command)?;
-            put_response(alloc, out, response)
-        }
+        } => put_exchange(alloc, out, *actor, command, response),
         Line::Failed {
             actor,
             command,
             acted,
-        } => {
-            put_numbered(alloc, out, "f ", *actor as u64)?;
-            put_command(alloc, out, command)?;
-            put_acted(out, *acted)
-        }
+        } => put_failed(alloc, out, *actor, command, *acted),
         Line::Reset { actor } => put_numbered(alloc, out, "r ", *actor as u64),
         Line::ResetFailed { actor } => put_numbered(alloc, out, "q ", *actor as u64),
-        Line::World { actor, event } => {
-            put_numbered(alloc, out, "w ", *actor as u64)?;
-            put_event(alloc, out, *event)
-        }
-        _ => Ok(()),
-    }
-}
-
-/// The words of every other line.
-fn put_other_words(alloc: Global, out: &mut String, line: &Line) -> Result<(), Memory>
-    ensures { OnOk result (string_bytes out.new ≡ string_bytes out.old ++ other_words line.now) }
-{
-    match line {
-        Line::Turn { actor } => put_numbered(alloc, out, "t ", *actor as u64),
-        Line::Begin { actor, op } => {
-            put_numbered(alloc, out, "b ", *actor as u64)?;
-            put_numbered(alloc, out, " ", *op as u64)
-        }
+        Line::World { actor, event } => put_world(alloc, out, *actor, *event),
         Line::Published {
             number,
             family,
             epoch,
             point,
             content,
-        } => {
-            put_numbered(alloc, out, "p ", *number)?;
-            put_family(out, *family)?;
-            put_snapshot(alloc, out, *epoch, *point, content)
-        }
+        } => put_published(alloc, out, *number, *family, *epoch, *point, content),
         Line::EpochEnd {
             number,
             epoch,
             event,
-        } => {
-            put_numbered(alloc, out, "z ", *number)?;
-            put_numbered(alloc, out, " ", *epoch)?;
-            put_numbered(alloc, out, " ", *event)
-        }
-        Line::Refused { family, event } => {
-            put(out, "d")?;
-            put_family(out, *family)?;
-            put_numbered(alloc, out, " ", *event)
-        }
-        Line::Answered { actor, op, answer } => {
-            put_numbered(alloc, out, "a ", *actor as u64)?;
-            put_numbered(alloc, out, " ", *op as u64)?;
-            put_answer(alloc, out, *answer)
-        }
-        _ => Ok(()),
+        } => put_epoch_end(alloc, out, *number, *epoch, *event),
+        Line::ReadingRefused { family, event } => put_reading_refused(alloc, out, *family, *event),
+        Line::Answered { actor, op, answer } => put_answered(alloc, out, *actor, *op, *answer),
     }
 }
 
 fn put_line(alloc: Global, out: &mut String, line: &Line) -> Result<(), Memory>
-    ensures { OnOk result (string_bytes out.new ≡ string_bytes out.old ++ line_text line.now) }
+    ensures { OnOk result (Puts out.old out.new (line_text line.now)) }
 {
-    put_event_words(alloc, out, line)?;
-    put_other_words(alloc, out, line)?;
+    put_words(alloc, out, line)?;
     put(out, "\n")
 }
 
 fn put_lines(alloc: Global, out: &mut String, lines: &[Line]) -> Result<(), Memory>
-    ensures { OnOk result (string_bytes out.new ≡ string_bytes out.old ++ lines_text (reverse lines.now)) }
+    ensures { OnOk result (Puts out.old out.new (lines_text (reverse lines.now))) }
 {
     for line in lines {
         put_line(alloc, out, line)?;
@@ -209,7 +267,7 @@ fn put_lines(alloc: Global, out: &mut String, lines: &[Line]) -> Result<(), Memo
 }
 
 fn put_mode(out: &mut String, mode: Mode) -> Result<(), Memory>
-    ensures { OnOk result (string_bytes out.new ≡ string_bytes out.old ++ mode_text mode) }
+    ensures { OnOk result (Puts out.old out.new (mode_text mode)) }
 {
     match mode {
         Mode::Replay => put(out, "\nmode replay\n"),
@@ -217,7 +275,8 @@ fn put_mode(out: &mut String, mode: Mode) -> Result<(), Memory>
     }
 }
 
-/// The text of a report: a line for the script, one for the mode, one for each of its lines, and `end`.
+/// The text of a report: a line for the script, one for the mode, one for each of its lines, and
+/// `end`.
 pub fn write_report(alloc: Global, report: &Report) -> Result<Text, Memory>
     ensures { IfOk result (λ text. text ≡ report_text report.now) }
 {
@@ -230,7 +289,8 @@ pub fn write_report(alloc: Global, report: &Report) -> Result<Text, Memory>
     Ok(Text::from_string(out))
 }
 
-/// How it is told that bytes are no script: the part, the index of its item, and the rule that it breaks.
+/// How it is told that bytes are no script: the part, the index of its item, and the rule that it
+/// breaks.
 pub fn refused_text(alloc: Global, part: Part, index: u32, why: Why) -> Result<Text, Memory>
     ensures { IfOk result (λ text. text ≡ refused_line (refusal part index why)) }
 {
@@ -245,7 +305,7 @@ pub fn refused_text(alloc: Global, part: Part, index: u32, why: Why) -> Result<T
 }
 
 fn put_quoted(out: &mut String, digits: &str) -> Result<(), Memory>
-    ensures { OnOk result (string_bytes out.new ≡ string_bytes out.old ++ quoted_text digits.now) }
+    ensures { OnOk result (Puts out.old out.new (quoted_text digits.now)) }
 {
     put(out, "\"")?;
     put(out, digits)?;
@@ -253,14 +313,14 @@ fn put_quoted(out: &mut String, digits: &str) -> Result<(), Memory>
 }
 
 fn put_bad(alloc: Global, out: &mut String, at: usize) -> Result<(), Memory>
-    ensures { OnOk result (string_bytes out.new ≡ string_bytes out.old ++ bad_text at) }
+    ensures { OnOk result (Puts out.old out.new (bad_text at)) }
 {
     put_numbered(alloc, out, "{\"bad\":", at as u64)?;
     put(out, "}")
 }
 
 fn put_iccid(alloc: Global, out: &mut String, bytes: &[u8]) -> Result<(), Memory>
-    ensures { OnOk result (string_bytes out.new ≡ string_bytes out.old ++ digits_text (iccid_of bytes.now)) }
+    ensures { OnOk result (Puts out.old out.new (digits_text (iccid_of bytes.now))) }
 {
     match iccid(alloc, bytes) {
         Ok(digits) => put_quoted(out, digits.as_str()),

@@ -1,14 +1,17 @@
 // All that the program does, over any source and sink.
-ghost use Rattle.std.specs.Prelude.{◌≡◌, ◌≢◌, ◌≤◌, ◌⊎◌, false, IsTrue, IsSomeAnd, IfSome, IfOk, None};
-ghost use Rattle.apdu.specs.Stream.{Rose, Appends};
+ghost use Rattle.std.specs.Prelude.{◌≡◌, ◌≢◌, ◌⊎◌, false, IsTrue, IsSomeAnd, IfSome, None};
+ghost use Rattle.apdu.specs.Stream.{Rose};
+ghost use Rattle.streams.specs.Streams.{HasMore, Wrote};
+ghost use Rattle.uicc_replay.specs.Top.{is_replay, line_of, is_status, script_limit, IsDue, IsDueOfBytes, IsDueOfScript, IsDueOfLine, IsRefused, IsReplayed, WritesPart, Writes, Ends};
 
-use crate::first::first_of;
+use crate::first::served_script;
 use crate::report::{Mode, Report};
-use crate::run::replay;
+use crate::run::replayed_lines;
 use crate::text::{refused_text, write_report};
 use apdu::{Memory, Sink, Source, Text};
 use script::{Script, ScriptError, read_script};
 use std::alloc::Global;
+use streams::{Input, Streams, read_all};
 
 /// How a call of the program ended: its status, and the report where there is one.
 #[derive(Drop)]
@@ -34,40 +37,11 @@ pub enum Ending {
     Replayed { report: Report, text: Text },
 }
 
-/// What a source gave.
-enum Input {
-    /// All its bytes.
-    All(Vec<u8>),
-    /// More bytes than a script may have.
-    TooLong,
-    /// A failure.
-    Fault,
-}
-
-ghost use Rattle.uicc_replay.specs.Top.{is_replay, line_of, is_status, IsDue, IsDueOfBytes, IsDueOfScript, IsDueLine, HasMore, IsRefused, IsReplayed, WritesPart, Gives, WritesWhole, WritesFront, Ends};
-
 /// The most bytes that a script may have.
-const SCRIPT_LIMIT: usize = 8_388_608;
-
-/// Reads to the end of the source, or until it gave more than a script may have.
-fn read_all<S: Source>(alloc: Global, source: &mut S) -> Result<Input, Memory>
-    ensures { IfOk result
-        (Gives (S.left source.old) (S.ended source.new) (S.given source.old) (S.given source.new) (S.faults source.old) (S.faults source.new)) }
+fn script_limit() -> usize
+    ensures { result ≡ script_limit }
 {
-    let mut bytes = Vec::new(alloc);
-    let mut buffer = [0u8; 4096];
-    'reads: while bytes.len() <= SCRIPT_LIMIT {
-        match source.read(&mut buffer) {
-            Ok(count) => {
-                if count == 0 {
-                    return Ok(Input::All(bytes));
-                }
-                bytes.extend_from_slice(&buffer[..count])?;
-            }
-            Err(_) => return Ok(Input::Fault),
-        }
-    }
-    Ok(Input::TooLong)
+    8_388_608
 }
 
 fn is_replay_word(words: &[String]) -> bool
@@ -80,8 +54,8 @@ fn is_replay_word(words: &[String]) -> bool
 }
 
 /// The ending of bytes that are not replayed, with the line that tells why.
-fn refused(line: Result<Text, Memory>) -> Ending
-    ensures { IsDueLine line result }
+fn ending_of_line(line: Result<Text, Memory>) -> Ending
+    ensures { IsDueOfLine line result }
 {
     match line {
         Ok(line) => Ending::Refused { line },
@@ -91,15 +65,15 @@ fn refused(line: Result<Text, Memory>) -> Ending
 
 /// The ending of a script.
 #[tactic(auto, unfolding(crate::specs::Top::later_line))]
-fn replay_script(alloc: Global, script: Script) -> Ending
+fn ending_of_script(alloc: Global, script: Script) -> Ending
     ensures { IsDueOfScript script result }
 {
-    let first = match first_of(alloc, &script) {
-        Ok(Some(first)) => first,
-        Ok(None) => return refused(Text::from_str(alloc, "refused other 0 later\n")),
+    let served = match served_script(alloc, &script) {
+        Ok(Some(served)) => served,
+        Ok(None) => return ending_of_line(Text::from_str(alloc, "refused other 0 later\n")),
         Err(_) => return Ending::Memory,
     };
-    let Ok(lines) = replay(alloc, first) else {
+    let Ok(lines) = replayed_lines(alloc, served) else {
         return Ending::Memory;
     };
     let report = Report {
@@ -114,40 +88,49 @@ fn replay_script(alloc: Global, script: Script) -> Ending
 }
 
 /// The ending of bytes that were read.
-fn replay_bytes(alloc: Global, bytes: &[u8]) -> Ending
+fn ending_of_bytes(alloc: Global, bytes: &[u8]) -> Ending
     ensures { IsDueOfBytes bytes.now result }
 {
     match read_script(alloc, bytes) {
-        Ok(script) => replay_script(alloc, script),
+        Ok(script) => ending_of_script(alloc, script),
         Err(ScriptError::Refused { part, index, why }) => {
-            refused(refused_text(alloc, part, index, why))
+            ending_of_line(refused_text(alloc, part, index, why))
         }
         Err(ScriptError::Memory) => Ending::Memory,
     }
 }
 
-/// Decides how the call ends.
-fn decide<S: Source>(alloc: Global, words: &[String], source: &mut S) -> Ending
-    ensures { IsDue (is_replay words.now) (S.left source.old) (S.ended source.new) (S.given source.old) (S.given source.new)
-        (S.faults source.old) (S.faults source.new) result }
+/// How the call ends.
+fn ending_of<S: Source, K: Sink>(
+    alloc: Global,
+    words: &[String],
+    streams: &mut Streams<S, K>,
+) -> Ending
+    ensures due { IsDue (is_replay words.now) streams.old.source streams.new.source result }
+    ensures sink { streams.new.sink ≡ streams.old.sink }
 {
     if !is_replay_word(words) {
         return Ending::Usage;
     }
-    match read_all(alloc, source) {
-        Ok(Input::All(bytes)) => replay_bytes(alloc, bytes.as_slice()),
+    match read_all(alloc, script_limit(), streams) {
+        Ok(Input::All(bytes)) => ending_of_bytes(alloc, bytes.as_slice()),
         Ok(Input::TooLong) => Ending::TooLong,
         Ok(Input::Fault) => Ending::ReadFault,
         Err(_) => Ending::Memory,
     }
 }
 
-/// Writes what an ending of this status writes.
-fn end_with<K: Sink>(sink: &mut K, status: u8, report: Option<Report>, piece: &[u8]) -> Outcome
-    ensures { (WritesWhole status report piece.now (K.written sink.old) (K.written sink.new) result)
-        ⊎ (WritesFront piece.now (K.written sink.old) (K.written sink.new) (K.faults sink.old) (K.faults sink.new) result) }
+/// Writes the piece with which a call of this status ends.
+fn write_piece<S: Source, K: Sink>(
+    streams: &mut Streams<S, K>,
+    status: u8,
+    report: Option<Report>,
+    piece: &[u8],
+) -> Outcome
+    ensures writes { Writes status report piece.now streams.old.sink streams.new.sink result }
+    ensures source { streams.new.source ≡ streams.old.source }
 {
-    match sink.write(piece) {
+    match streams::write_piece(streams, piece) {
         Ok(()) => Outcome { status, report },
         Err(_) => Outcome {
             status: 5,
@@ -158,22 +141,23 @@ fn end_with<K: Sink>(sink: &mut K, status: u8, report: Option<Report>, piece: &[
 
 /// Writes what the ending writes.
 #[tactic(auto, unfolding(crate::specs::Top::usage_line, crate::specs::Top::too_long_line, crate::specs::Top::read_fault_line, crate::specs::Top::memory_line))]
-fn finish<K: Sink>(sink: &mut K, ending: Ending) -> Outcome
-    ensures { Ends ending (K.written sink.old) (K.written sink.new) (K.faults sink.old) (K.faults sink.new) result }
+fn write_ending<S: Source, K: Sink>(streams: &mut Streams<S, K>, ending: Ending) -> Outcome
+    ensures ends { Ends ending streams.old.sink streams.new.sink result }
+    ensures source { streams.new.source ≡ streams.old.source }
 {
     match ending {
-        Ending::Usage => end_with(
-            sink,
+        Ending::Usage => write_piece(
+            streams,
             2,
             None,
             b"usage: uicc_replay replay, run, check, gen SEED SIZE or bulk SEED SIZE\n",
         ),
-        Ending::TooLong => end_with(sink, 8, None, b"too long\n"),
-        Ending::Refused { line } => end_with(sink, 3, None, line.as_str().as_bytes()),
-        Ending::ReadFault => end_with(sink, 4, None, b"read fault\n"),
-        Ending::Memory => end_with(sink, 9, None, b"memory\n"),
+        Ending::TooLong => write_piece(streams, 8, None, b"too long\n"),
+        Ending::Refused { line } => write_piece(streams, 3, None, line.as_str().as_bytes()),
+        Ending::ReadFault => write_piece(streams, 4, None, b"read fault\n"),
+        Ending::Memory => write_piece(streams, 9, None, b"memory\n"),
         Ending::Replayed { report, text } => {
-            end_with(sink, 0, Some(report), text.as_str().as_bytes())
+            write_piece(streams, 0, Some(report), text.as_str().as_bytes())
         }
     }
 }
@@ -183,25 +167,28 @@ fn finish<K: Sink>(sink: &mut K, ending: Ending) -> Outcome
 pub fn top<S: Source, K: Sink>(
     alloc: Global,
     words: &[String],
-    source: &mut S,
-    sink: &mut K,
+    streams: &mut Streams<S, K>,
 ) -> Outcome
-    // What each status says. 0: the report is the legal replay of all the source's bytes, and its text was written.
-    ensures done { result.status ≡ 0 → IsSomeAnd result.report (IsReplayed (S.left source.old) (S.ended source.new) (K.written sink.old) (K.written sink.new)) }
+    // What each status says. 0: the report is the legal replay of all the source's bytes, and its
+    // text was written.
+    ensures done { result.status ≡ 0
+        → IsSomeAnd result.report (IsReplayed streams.old streams.new) }
     ensures usage { result.status ≡ 2 → is_replay words.now ≡ false }
-    ensures other_words { is_replay words.now ≡ false → (result.status ≡ 2) ⊎ (result.status ≡ 5) }
-    ensures refused { result.status ≡ 3 → IsRefused (S.left source.old) (S.ended source.new) (K.written sink.old) (K.written sink.new) }
-    ensures too_long { result.status ≡ 8 → HasMore (S.left source.old) (S.given source.old) (S.given source.new) }
-    ensures read { result.status ≡ 4 → Rose (S.faults source.old) (S.faults source.new) }
-    ensures write { result.status ≡ 5 → Rose (K.faults sink.old) (K.faults sink.new) }
+    ensures refused { result.status ≡ 3 → IsRefused streams.old streams.new }
+    ensures read { result.status ≡ 4 → Rose streams.old.source.faults streams.new.source.faults }
+    ensures write { result.status ≡ 5 → Rose streams.old.sink.faults streams.new.sink.faults }
+    ensures too_long { result.status ≡ 8 → HasMore script_limit streams.old.source streams.new.source }
     ensures known { IsTrue (is_status result.status) }
 
+    // Words that are no command end in one of two ways, and read nothing.
+    ensures other_words { is_replay words.now ≡ false → (result.status ≡ 2) ⊎ (result.status ≡ 5) }
+    ensures unread { is_replay words.now ≡ false → streams.new.source ≡ streams.old.source }
+
     // What is written, and that a report is handed out at status 0 alone.
-    ensures line { IfSome (line_of result.status) (Appends (K.written sink.old) (K.written sink.new)) }
-    ensures part { result.status ≡ 5 → WritesPart (is_replay words.now) (S.left source.old) (S.ended source.new) (S.given source.old) (S.given source.new)
-        (S.faults source.old) (S.faults source.new) (K.written sink.old) (K.written sink.new) }
+    ensures line { IfSome (line_of result.status) (Wrote streams.old streams.new) }
+    ensures part { result.status ≡ 5 → WritesPart (is_replay words.now) streams.old streams.new }
     ensures report { result.status ≢ 0 → result.report ≡ None }
 {
-    let ending = decide(alloc, words, source);
-    finish(sink, ending)
+    let ending = ending_of(alloc, words, streams);
+    write_ending(streams, ending)
 }

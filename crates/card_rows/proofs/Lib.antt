@@ -1,0 +1,9 @@
+pub mod Found
+pub mod Keys
+pub mod Numbers
+pub mod Walk
+pub mod Refusals
+pub mod Announcements
+pub mod Tries
+pub mod Resets
+pub mod Shapes

@@ -1,5 +1,0 @@
-use Rattle.std.proofs.Common.{length}
-use Rattle.script.proofs.world.+put_faults.Given as goal
-
-abbrev pub decreases-put_faults : goal.decreases-put_faults
-decreases-put_faults l = length l.faults.now

@@ -1,5 +1,0 @@
-use Rattle.std.proofs.Common.{length}
-use Rattle.script.proofs.world.+put_pins.Given as goal
-
-abbrev pub decreases-put_pins : goal.decreases-put_pins
-decreases-put_pins l = length l.keys.now

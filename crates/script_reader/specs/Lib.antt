@@ -1,0 +1,12 @@
+pub mod Words
+pub mod Reading
+pub mod Answers
+pub mod Fields
+pub mod Files
+pub mod Cards
+pub mod Operations
+pub mod Pairing
+pub mod Parts
+pub mod Scripts
+pub mod Rules
+pub mod World
