@@ -1,0 +1,13 @@
+mod States
+mod Verdicts
+mod Says
+mod Publishing
+mod Performing
+mod Walk
+mod Selections
+mod Tracked
+mod OtherSlots
+mod Looking
+mod CurrentPaths
+mod HandlesAndSessions
+mod SeenBefore

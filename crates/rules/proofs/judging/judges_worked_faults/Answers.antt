@@ -1,0 +1,113 @@
+use Rattle.std.proofs.Common.{refl}
+use Rattle.std.specs.Fmt.{digits}
+use Rattle.std.specs.Str.{chars}
+use Rattle.std.specs.Char.{encode_utf8}
+use Rattle.hex.specs.Hex.{encode_with, decode_pairs}
+use Rattle.serde_json.proofs.OnLiterals.{serde_json_on_literals}
+use Rattle.card_model.specs.Step.{on_card, step, after_event, after_reset}
+use Rattle.card_model.specs.Select.{select_row}
+use Rattle.card_model.specs.GetResponse.{get_response_row}
+use Rattle.card_model.specs.Read.{read_binary_row, read_record_row}
+use Rattle.card_model.specs.Update.{update_binary_row, update_record_row}
+use Rattle.card_model.specs.Verify.{verify_row}
+use Rattle.card_model.specs.Channels.{manage_channel_row}
+use Rattle.card_model.specs.Toolkit.{status_row, terminal_profile_row, fetch_row, terminal_response_row}
+use Rattle.fcp.specs.Control.{read_fcp, write_fcp, read_rule}
+use Rattle.alpha.specs.Alphabet.{default_alphabet, extension_table}
+use Rattle.rules.proofs.judging.judges_worked_faults.Goals as goal
+
+pub returns-clause-fault_at_call_01_acted : goal.returns-clause-fault_at_call_01_acted
+unfolding serde_json_on_literals digits encode_with chars encode_utf8 on_card step after_event after_reset select_row get_response_row read_binary_row read_record_row update_binary_row update_record_row verify_row manage_channel_row status_row terminal_profile_row fetch_row terminal_response_row read_fcp write_fcp read_rule default_alphabet extension_table decode_pairs
+returns-clause-fault_at_call_01_acted c = refl
+
+pub returns-clause-fault_at_call_01_lost : goal.returns-clause-fault_at_call_01_lost
+unfolding serde_json_on_literals digits encode_with chars encode_utf8 on_card step after_event after_reset select_row get_response_row read_binary_row read_record_row update_binary_row update_record_row verify_row manage_channel_row status_row terminal_profile_row fetch_row terminal_response_row read_fcp write_fcp read_rule default_alphabet extension_table decode_pairs
+returns-clause-fault_at_call_01_lost c = refl
+
+pub returns-clause-fault_at_call_02_acted : goal.returns-clause-fault_at_call_02_acted
+unfolding serde_json_on_literals digits encode_with chars encode_utf8 on_card step after_event after_reset select_row get_response_row read_binary_row read_record_row update_binary_row update_record_row verify_row manage_channel_row status_row terminal_profile_row fetch_row terminal_response_row read_fcp write_fcp read_rule default_alphabet extension_table decode_pairs
+returns-clause-fault_at_call_02_acted c = refl
+
+pub returns-clause-fault_at_call_02_lost : goal.returns-clause-fault_at_call_02_lost
+unfolding serde_json_on_literals digits encode_with chars encode_utf8 on_card step after_event after_reset select_row get_response_row read_binary_row read_record_row update_binary_row update_record_row verify_row manage_channel_row status_row terminal_profile_row fetch_row terminal_response_row read_fcp write_fcp read_rule default_alphabet extension_table decode_pairs
+returns-clause-fault_at_call_02_lost c = refl
+
+pub returns-clause-fault_at_call_03_acted : goal.returns-clause-fault_at_call_03_acted
+unfolding serde_json_on_literals digits encode_with chars encode_utf8 on_card step after_event after_reset select_row get_response_row read_binary_row read_record_row update_binary_row update_record_row verify_row manage_channel_row status_row terminal_profile_row fetch_row terminal_response_row read_fcp write_fcp read_rule default_alphabet extension_table decode_pairs
+returns-clause-fault_at_call_03_acted c = refl
+
+pub returns-clause-fault_at_call_03_lost : goal.returns-clause-fault_at_call_03_lost
+unfolding serde_json_on_literals digits encode_with chars encode_utf8 on_card step after_event after_reset select_row get_response_row read_binary_row read_record_row update_binary_row update_record_row verify_row manage_channel_row status_row terminal_profile_row fetch_row terminal_response_row read_fcp write_fcp read_rule default_alphabet extension_table decode_pairs
+returns-clause-fault_at_call_03_lost c = refl
+
+pub returns-clause-fault_at_call_04_acted : goal.returns-clause-fault_at_call_04_acted
+unfolding serde_json_on_literals digits encode_with chars encode_utf8 on_card step after_event after_reset select_row get_response_row read_binary_row read_record_row update_binary_row update_record_row verify_row manage_channel_row status_row terminal_profile_row fetch_row terminal_response_row read_fcp write_fcp read_rule default_alphabet extension_table decode_pairs
+returns-clause-fault_at_call_04_acted c = refl
+
+pub returns-clause-fault_at_call_04_lost : goal.returns-clause-fault_at_call_04_lost
+unfolding serde_json_on_literals digits encode_with chars encode_utf8 on_card step after_event after_reset select_row get_response_row read_binary_row read_record_row update_binary_row update_record_row verify_row manage_channel_row status_row terminal_profile_row fetch_row terminal_response_row read_fcp write_fcp read_rule default_alphabet extension_table decode_pairs
+returns-clause-fault_at_call_04_lost c = refl
+
+pub returns-clause-fault_at_call_05_acted : goal.returns-clause-fault_at_call_05_acted
+unfolding serde_json_on_literals digits encode_with chars encode_utf8 on_card step after_event after_reset select_row get_response_row read_binary_row read_record_row update_binary_row update_record_row verify_row manage_channel_row status_row terminal_profile_row fetch_row terminal_response_row read_fcp write_fcp read_rule default_alphabet extension_table decode_pairs
+returns-clause-fault_at_call_05_acted c = refl
+
+pub returns-clause-fault_at_call_05_lost : goal.returns-clause-fault_at_call_05_lost
+unfolding serde_json_on_literals digits encode_with chars encode_utf8 on_card step after_event after_reset select_row get_response_row read_binary_row read_record_row update_binary_row update_record_row verify_row manage_channel_row status_row terminal_profile_row fetch_row terminal_response_row read_fcp write_fcp read_rule default_alphabet extension_table decode_pairs
+returns-clause-fault_at_call_05_lost c = refl
+
+pub returns-clause-fault_at_call_06_acted : goal.returns-clause-fault_at_call_06_acted
+unfolding serde_json_on_literals digits encode_with chars encode_utf8 on_card step after_event after_reset select_row get_response_row read_binary_row read_record_row update_binary_row update_record_row verify_row manage_channel_row status_row terminal_profile_row fetch_row terminal_response_row read_fcp write_fcp read_rule default_alphabet extension_table decode_pairs
+returns-clause-fault_at_call_06_acted c = refl
+
+pub returns-clause-fault_at_call_06_lost : goal.returns-clause-fault_at_call_06_lost
+unfolding serde_json_on_literals digits encode_with chars encode_utf8 on_card step after_event after_reset select_row get_response_row read_binary_row read_record_row update_binary_row update_record_row verify_row manage_channel_row status_row terminal_profile_row fetch_row terminal_response_row read_fcp write_fcp read_rule default_alphabet extension_table decode_pairs
+returns-clause-fault_at_call_06_lost c = refl
+
+pub returns-clause-fault_at_call_07_acted : goal.returns-clause-fault_at_call_07_acted
+unfolding serde_json_on_literals digits encode_with chars encode_utf8 on_card step after_event after_reset select_row get_response_row read_binary_row read_record_row update_binary_row update_record_row verify_row manage_channel_row status_row terminal_profile_row fetch_row terminal_response_row read_fcp write_fcp read_rule default_alphabet extension_table decode_pairs
+returns-clause-fault_at_call_07_acted c = refl
+
+pub returns-clause-fault_at_call_07_lost : goal.returns-clause-fault_at_call_07_lost
+unfolding serde_json_on_literals digits encode_with chars encode_utf8 on_card step after_event after_reset select_row get_response_row read_binary_row read_record_row update_binary_row update_record_row verify_row manage_channel_row status_row terminal_profile_row fetch_row terminal_response_row read_fcp write_fcp read_rule default_alphabet extension_table decode_pairs
+returns-clause-fault_at_call_07_lost c = refl
+
+pub returns-clause-fault_at_call_08_acted : goal.returns-clause-fault_at_call_08_acted
+unfolding serde_json_on_literals digits encode_with chars encode_utf8 on_card step after_event after_reset select_row get_response_row read_binary_row read_record_row update_binary_row update_record_row verify_row manage_channel_row status_row terminal_profile_row fetch_row terminal_response_row read_fcp write_fcp read_rule default_alphabet extension_table decode_pairs
+returns-clause-fault_at_call_08_acted c = refl
+
+pub returns-clause-fault_at_call_08_lost : goal.returns-clause-fault_at_call_08_lost
+unfolding serde_json_on_literals digits encode_with chars encode_utf8 on_card step after_event after_reset select_row get_response_row read_binary_row read_record_row update_binary_row update_record_row verify_row manage_channel_row status_row terminal_profile_row fetch_row terminal_response_row read_fcp write_fcp read_rule default_alphabet extension_table decode_pairs
+returns-clause-fault_at_call_08_lost c = refl
+
+pub returns-clause-fault_at_call_09_acted : goal.returns-clause-fault_at_call_09_acted
+unfolding serde_json_on_literals digits encode_with chars encode_utf8 on_card step after_event after_reset select_row get_response_row read_binary_row read_record_row update_binary_row update_record_row verify_row manage_channel_row status_row terminal_profile_row fetch_row terminal_response_row read_fcp write_fcp read_rule default_alphabet extension_table decode_pairs
+returns-clause-fault_at_call_09_acted c = refl
+
+pub returns-clause-fault_at_call_09_lost : goal.returns-clause-fault_at_call_09_lost
+unfolding serde_json_on_literals digits encode_with chars encode_utf8 on_card step after_event after_reset select_row get_response_row read_binary_row read_record_row update_binary_row update_record_row verify_row manage_channel_row status_row terminal_profile_row fetch_row terminal_response_row read_fcp write_fcp read_rule default_alphabet extension_table decode_pairs
+returns-clause-fault_at_call_09_lost c = refl
+
+pub returns-clause-fault_at_call_10_acted : goal.returns-clause-fault_at_call_10_acted
+unfolding serde_json_on_literals digits encode_with chars encode_utf8 on_card step after_event after_reset select_row get_response_row read_binary_row read_record_row update_binary_row update_record_row verify_row manage_channel_row status_row terminal_profile_row fetch_row terminal_response_row read_fcp write_fcp read_rule default_alphabet extension_table decode_pairs
+returns-clause-fault_at_call_10_acted c = refl
+
+pub returns-clause-fault_at_call_10_lost : goal.returns-clause-fault_at_call_10_lost
+unfolding serde_json_on_literals digits encode_with chars encode_utf8 on_card step after_event after_reset select_row get_response_row read_binary_row read_record_row update_binary_row update_record_row verify_row manage_channel_row status_row terminal_profile_row fetch_row terminal_response_row read_fcp write_fcp read_rule default_alphabet extension_table decode_pairs
+returns-clause-fault_at_call_10_lost c = refl
+
+pub returns-clause-fault_at_call_11_acted : goal.returns-clause-fault_at_call_11_acted
+unfolding serde_json_on_literals digits encode_with chars encode_utf8 on_card step after_event after_reset select_row get_response_row read_binary_row read_record_row update_binary_row update_record_row verify_row manage_channel_row status_row terminal_profile_row fetch_row terminal_response_row read_fcp write_fcp read_rule default_alphabet extension_table decode_pairs
+returns-clause-fault_at_call_11_acted c = refl
+
+pub returns-clause-fault_at_call_11_lost : goal.returns-clause-fault_at_call_11_lost
+unfolding serde_json_on_literals digits encode_with chars encode_utf8 on_card step after_event after_reset select_row get_response_row read_binary_row read_record_row update_binary_row update_record_row verify_row manage_channel_row status_row terminal_profile_row fetch_row terminal_response_row read_fcp write_fcp read_rule default_alphabet extension_table decode_pairs
+returns-clause-fault_at_call_11_lost c = refl
+
+pub returns-clause-fault_at_call_12_acted : goal.returns-clause-fault_at_call_12_acted
+unfolding serde_json_on_literals digits encode_with chars encode_utf8 on_card step after_event after_reset select_row get_response_row read_binary_row read_record_row update_binary_row update_record_row verify_row manage_channel_row status_row terminal_profile_row fetch_row terminal_response_row read_fcp write_fcp read_rule default_alphabet extension_table decode_pairs
+returns-clause-fault_at_call_12_acted c = refl
+
+pub returns-clause-fault_at_call_12_lost : goal.returns-clause-fault_at_call_12_lost
+unfolding serde_json_on_literals digits encode_with chars encode_utf8 on_card step after_event after_reset select_row get_response_row read_binary_row read_record_row update_binary_row update_record_row verify_row manage_channel_row status_row terminal_profile_row fetch_row terminal_response_row read_fcp write_fcp read_rule default_alphabet extension_table decode_pairs
+returns-clause-fault_at_call_12_lost c = refl

@@ -1,0 +1,61 @@
+use Rattle.std.proofs.Common.{refl}
+use Rattle.std.specs.Fmt.{digits}
+use Rattle.std.specs.Str.{chars}
+use Rattle.std.specs.Char.{encode_utf8}
+use Rattle.hex.specs.Hex.{encode_with, decode_pairs}
+use Rattle.serde_json.proofs.OnLiterals.{serde_json_on_literals}
+use Rattle.card_model.specs.Step.{on_card, step, after_event, after_reset}
+use Rattle.card_model.specs.Select.{select_row}
+use Rattle.card_model.specs.GetResponse.{get_response_row}
+use Rattle.card_model.specs.Read.{read_binary_row, read_record_row}
+use Rattle.card_model.specs.Update.{update_binary_row, update_record_row}
+use Rattle.card_model.specs.Verify.{verify_row}
+use Rattle.card_model.specs.Channels.{manage_channel_row}
+use Rattle.card_model.specs.Toolkit.{status_row, terminal_profile_row, fetch_row, terminal_response_row}
+use Rattle.fcp.specs.Control.{read_fcp, write_fcp, read_rule}
+use Rattle.alpha.specs.Alphabet.{default_alphabet, extension_table}
+use Rattle.rules.proofs.judging.judges_worked_loads.Goals as goal
+
+pub returns-clause-one_load : goal.returns-clause-one_load
+unfolding serde_json_on_literals digits encode_with chars encode_utf8 on_card step after_event after_reset select_row get_response_row read_binary_row read_record_row update_binary_row update_record_row verify_row manage_channel_row status_row terminal_profile_row fetch_row terminal_response_row read_fcp write_fcp read_rule default_alphabet extension_table decode_pairs
+returns-clause-one_load c = refl
+
+pub returns-clause-loads_side_by_side : goal.returns-clause-loads_side_by_side
+unfolding serde_json_on_literals digits encode_with chars encode_utf8 on_card step after_event after_reset select_row get_response_row read_binary_row read_record_row update_binary_row update_record_row verify_row manage_channel_row status_row terminal_profile_row fetch_row terminal_response_row read_fcp write_fcp read_rule default_alphabet extension_table decode_pairs
+returns-clause-loads_side_by_side c = refl
+
+pub returns-clause-get_response : goal.returns-clause-get_response
+unfolding serde_json_on_literals digits encode_with chars encode_utf8 on_card step after_event after_reset select_row get_response_row read_binary_row read_record_row update_binary_row update_record_row verify_row manage_channel_row status_row terminal_profile_row fetch_row terminal_response_row read_fcp write_fcp read_rule default_alphabet extension_table decode_pairs
+returns-clause-get_response c = refl
+
+pub returns-clause-endless_file : goal.returns-clause-endless_file
+unfolding serde_json_on_literals digits encode_with chars encode_utf8 on_card step after_event after_reset select_row get_response_row read_binary_row read_record_row update_binary_row update_record_row verify_row manage_channel_row status_row terminal_profile_row fetch_row terminal_response_row read_fcp write_fcp read_rule default_alphabet extension_table decode_pairs
+returns-clause-endless_file c = refl
+
+pub returns-clause-bad_fcp : goal.returns-clause-bad_fcp
+unfolding serde_json_on_literals digits encode_with chars encode_utf8 on_card step after_event after_reset select_row get_response_row read_binary_row read_record_row update_binary_row update_record_row verify_row manage_channel_row status_row terminal_profile_row fetch_row terminal_response_row read_fcp write_fcp read_rule default_alphabet extension_table decode_pairs
+returns-clause-bad_fcp c = refl
+
+pub returns-clause-deactivated_file : goal.returns-clause-deactivated_file
+unfolding serde_json_on_literals digits encode_with chars encode_utf8 on_card step after_event after_reset select_row get_response_row read_binary_row read_record_row update_binary_row update_record_row verify_row manage_channel_row status_row terminal_profile_row fetch_row terminal_response_row read_fcp write_fcp read_rule default_alphabet extension_table decode_pairs
+returns-clause-deactivated_file c = refl
+
+pub returns-clause-absent : goal.returns-clause-absent
+unfolding serde_json_on_literals digits encode_with chars encode_utf8 on_card step after_event after_reset select_row get_response_row read_binary_row read_record_row update_binary_row update_record_row verify_row manage_channel_row status_row terminal_profile_row fetch_row terminal_response_row read_fcp write_fcp read_rule default_alphabet extension_table decode_pairs
+returns-clause-absent c = refl
+
+pub returns-clause-other_card_within_a_load : goal.returns-clause-other_card_within_a_load
+unfolding serde_json_on_literals digits encode_with chars encode_utf8 on_card step after_event after_reset select_row get_response_row read_binary_row read_record_row update_binary_row update_record_row verify_row manage_channel_row status_row terminal_profile_row fetch_row terminal_response_row read_fcp write_fcp read_rule default_alphabet extension_table decode_pairs
+returns-clause-other_card_within_a_load c = refl
+
+pub returns-clause-keeps_partial_reading : goal.returns-clause-keeps_partial_reading
+unfolding serde_json_on_literals digits encode_with chars encode_utf8 on_card step after_event after_reset select_row get_response_row read_binary_row read_record_row update_binary_row update_record_row verify_row manage_channel_row status_row terminal_profile_row fetch_row terminal_response_row read_fcp write_fcp read_rule default_alphabet extension_table decode_pairs
+returns-clause-keeps_partial_reading c = refl
+
+pub returns-clause-framework_reads_anew : goal.returns-clause-framework_reads_anew
+unfolding serde_json_on_literals digits encode_with chars encode_utf8 on_card step after_event after_reset select_row get_response_row read_binary_row read_record_row update_binary_row update_record_row verify_row manage_channel_row status_row terminal_profile_row fetch_row terminal_response_row read_fcp write_fcp read_rule default_alphabet extension_table decode_pairs
+returns-clause-framework_reads_anew c = refl
+
+pub returns-clause-refused_before_stale : goal.returns-clause-refused_before_stale
+unfolding serde_json_on_literals digits encode_with chars encode_utf8 on_card step after_event after_reset select_row get_response_row read_binary_row read_record_row update_binary_row update_record_row verify_row manage_channel_row status_row terminal_profile_row fetch_row terminal_response_row read_fcp write_fcp read_rule default_alphabet extension_table decode_pairs
+returns-clause-refused_before_stale c = refl
