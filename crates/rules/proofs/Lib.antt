@@ -11,3 +11,5 @@ mod Looking
 mod CurrentPaths
 mod HandlesAndSessions
 mod SeenBefore
+mod Attempts
+mod Planned

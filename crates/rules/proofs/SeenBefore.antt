@@ -32,7 +32,7 @@ suc_zero i = grind arith
 suc_suc : (n i : ℕ) → (suc n == suc i) ≡ (n == i)
 suc_suc n i = grind arith
 
-set_at : (xs : List Job) (n i : ℕ) (x y : Job) → slice_get xs n ≡ Some x → slice_get (slice_set xs n y) i ≡ (if n == i then Some y else slice_get xs i)
+pub set_at : (xs : List Job) (n i : ℕ) (x y : Job) → slice_get xs n ≡ Some x → slice_get (slice_set xs n y) i ≡ (if n == i then Some y else slice_get xs i)
 set_at [] n i x y h = absurd (cc)
 set_at (z ∷ zs) zero zero x y h = refl
 set_at (z ∷ zs) zero (suc i) x y h = rw (zero_suc i) refl
