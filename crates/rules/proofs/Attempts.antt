@@ -20,15 +20,16 @@ use Rattle.link.specs.declared.chain.Chain.{Chain}
 use Rattle.link.specs.Commands.{is_at}
 use Rattle.epoch_cache.specs.declared.cached.Touch.{Touch}
 use Rattle.epoch_cache.specs.Cache.{first_missing, is_update, moves_one, view_of_files}
-use Rattle.rules.specs.declared.edits.Attempt.{Attempt}
-use Rattle.rules.specs.declared.edits.Decided.{Decided}
-use Rattle.rules.specs.declared.edits.Editing.{Editing}
+use Rattle.editor.specs.declared.editing.Attempt.{Attempt}
+use Rattle.editor.specs.declared.editing.Decided.{Decided}
+use Rattle.editor.specs.declared.editing.Editing.{Editing}
 use Rattle.rules.specs.declared.kept.Begun.{Begun}
 use Rattle.rules.specs.declared.kept.Facts.{Facts}
 use Rattle.rules.specs.declared.kept.Job.{Job}
 use Rattle.rules.specs.declared.kept.Kept.{Kept}
 use Rattle.rules.specs.History.{counted, lives_in}
-use Rattle.rules.specs.Editing.{attempt_of, attempt_behind, moved_attempt, edit_paths, family_edit, first_lack, sent_update, updated_by, extended_by, with_attempt, no_editing}
+use Rattle.editor.specs.Editing.{attempt_behind, moved_attempt, edit_paths, sent_update, updated_by, extended_by, with_attempt, no_editing}
+use Rattle.rules.specs.Editing.{attempt_of, family_edit, first_lack}
 use Rattle.rules.specs.Kept.{actor_count, first_job, begun_of, begun_operation, operation_at, operation_now, changed_at, change_at}
 use Rattle.rules.specs.Work.{begins_plan, plans, attempts, undecided_work, edit_work, work_of_edit, work_of_operation}
 use Rattle.rules.specs.After.{job_beside, jobs_beside, fresh_begun, begun_with, editing_sent, editing_answered, editing_lost, edit_of, begun_exchanged, begun_failed, own_job, actor_of, jobs_of_actor, decision_of_begun, decision_at, facts_of, kept_of}

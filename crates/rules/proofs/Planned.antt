@@ -19,12 +19,13 @@ use Rattle.families.specs.Plans.{plan_updates}
 use Rattle.link.specs.declared.chain.Chain.{Chain}
 use Rattle.epoch_cache.specs.declared.cached.Touch.{Touch}
 use Rattle.epoch_cache.specs.Cache.{moves_one}
-use Rattle.rules.specs.declared.edits.Attempt.{Attempt}
-use Rattle.rules.specs.declared.edits.Decided.{Decided}
+use Rattle.editor.specs.declared.editing.Attempt.{Attempt}
+use Rattle.editor.specs.declared.editing.Decided.{Decided}
 use Rattle.rules.specs.declared.kept.Begun.{Begun}
 use Rattle.rules.specs.declared.kept.Job.{Job}
 use Rattle.rules.specs.declared.kept.Kept.{Kept}
-use Rattle.rules.specs.Editing.{attempt_of, attempt_behind, moved_attempt, family_edit, with_attempt}
+use Rattle.editor.specs.Editing.{attempt_behind, moved_attempt, with_attempt}
+use Rattle.rules.specs.Editing.{attempt_of, family_edit}
 use Rattle.rules.specs.Kept.{begun_of, begun_operation, operation_at, operation_now}
 use Rattle.rules.specs.Work.{work_of_operation}
 use Rattle.rules.specs.After.{is_raw, job_beside, fresh_begun, own_job, decision_of_begun, decision_at, facts_of, kept_of}

@@ -13,7 +13,7 @@ use Rattle.families.specs.Plans.{plan_updates}
 use Rattle.families.specs.Families.{View, all_families, shown}
 use Rattle.rules.specs.declared.due.Due.TheVariants.{Publish as publish}
 use Rattle.epoch_cache.specs.declared.cached.CachedFile.{CachedFile}
-use Rattle.rules.specs.declared.edits.Attempt.{Attempt}
+use Rattle.editor.specs.declared.editing.Attempt.{Attempt}
 use Rattle.rules.specs.declared.kept.Job.{Job}
 use Rattle.rules.specs.declared.kept.Kept.{Kept}
 use Rattle.epoch_cache.specs.Cache.{taken, is_current}

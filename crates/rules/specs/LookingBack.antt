@@ -19,7 +19,7 @@ use Rattle.link.specs.declared.chain.Chain.{Chain}
 use Rattle.link.specs.Commands.{is_at}
 use Rattle.epoch_cache.specs.declared.cached.CachedFile.{CachedFile}
 use Rattle.loader.specs.declared.reading.RefusedReading.{RefusedReading}
-use Rattle.rules.specs.declared.edits.Attempt.{Attempt}
+use Rattle.editor.specs.declared.editing.Attempt.{Attempt}
 use Rattle.rules.specs.declared.holdings.Handle.{Handle}
 use Rattle.rules.specs.declared.kept.Facts.{Facts}
 use Rattle.rules.specs.declared.kept.Kept.{Kept}

@@ -31,17 +31,19 @@ use Rattle.report.specs.declared.line.Line.TheVariants as line
 use Rattle.families.specs.Plans.{edited, same_book, plan_updates}
 use Rattle.families.specs.Families.{family_book, family_path, family_plan}
 use Rattle.link.specs.declared.chain.Chain.{Chain}
-use Rattle.rules.specs.declared.edits.Attempt.{Attempt}
-use Rattle.rules.specs.declared.edits.Decided.{Decided}
+use Rattle.editor.specs.declared.editing.Attempt.{Attempt}
+use Rattle.editor.specs.declared.editing.Decided.{Decided}
 use Rattle.rules.specs.declared.kept.Begun.{Begun}
 use Rattle.rules.specs.declared.kept.Kept.{Kept}
 use Rattle.rules.specs.declared.kept.Turn.{Turn}
 use Rattle.rules.specs.declared.standing.Standing.{Standing}
 use Rattle.rules.specs.History.{lives_in}
 use Rattle.link.specs.Commands.{is_at}
-use Rattle.rules.specs.Channels.{held_numbers, same_channels}
+use Rattle.channels.specs.Channels.{same_channels}
+use Rattle.rules.specs.Channels.{held_numbers}
 use Rattle.rules.specs.Sessions.{lacking_key, verify_command}
-use Rattle.rules.specs.Editing.{next_update, update_command, family_edit, card_need, owed_update, left_rows}
+use Rattle.editor.specs.Editing.{next_update, update_command, card_need, owed_update, left_rows}
+use Rattle.rules.specs.Editing.{family_edit}
 use Rattle.rules.specs.Kept.{actor_count, job_of, begun_of, operation_now}
 use Rattle.rules.specs.Work.{is_quiet, is_finished, has_operations_left, waits_on}
 use Rattle.rules.specs.After.{is_raw}

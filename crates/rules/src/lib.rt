@@ -3,7 +3,6 @@
 #![tactic(auto)]
 
 mod due;
-mod edits;
 mod holdings;
 mod judging;
 mod kept;
@@ -11,8 +10,7 @@ mod laws;
 mod standing;
 
 pub use due::Due;
-pub use edits::{Attempt, Decided, Editing};
-pub use holdings::{Handle, Handles, Mailbox, Session, Sessions};
+pub use holdings::{Handle, Handles, Session, Sessions};
 pub use judging::{
     judges_broken_answers, judges_broken_channels, judges_broken_edits, judges_broken_ending,
     judges_broken_faults, judges_broken_responses, judges_broken_rest, judges_broken_snapshots,
