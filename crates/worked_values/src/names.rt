@@ -1,14 +1,15 @@
-use super::*;
-use apdu::{Memory, Text};
-use std::alloc::Global;
-use std::test::Fail;
+// Names of worked bytes.
 
-/// The default alphabet in the order of its bytes, with U+001B in the escape's place.
-const DEFAULT: &str = "@£$¥èéùìòÇ\nØø\rÅåΔ_ΦΓΛΩΠΨΣΘΞ\u{1B}ÆæßÉ !\"#¤%&'()*+,-./0123456789:;<=>?\
-¡ABCDEFGHIJKLMNOPQRSTUVWXYZÄÖÑÜ§¿abcdefghijklmnopqrstuvwxyzäöñüà";
+use alpha::{decode_alpha, encode_alpha};
+use apdu::Text;
+use std::test::Fail;
 
 /// Bytes, and the name that they are read as and written from.
 const BOTH_WAYS: &str = ":\n\
+000102030405060708090B0C0E0F101112131415161718191A1C1D1E1F:@£$¥èéùìòÇØøÅåΔ_ΦΓΛΩΠΨΣΘΞÆæßÉ\n\
+202122232425262728292A2B2C2D2E2F303132333435363738393A3B3C3D3E3F: !\"#¤%&'()*+,-./0123456789:;<=>?\n\
+404142434445464748494A4B4C4D4E4F505152535455565758595A5B5C5D5E5F:¡ABCDEFGHIJKLMNOPQRSTUVWXYZÄÖÑÜ§\n\
+606162636465666768696A6B6C6D6E6F707172737475767778797A7B7C7D7E7F:¿abcdefghijklmnopqrstuvwxyzäöñüà\n\
 FFFF:\n\
 411B28FF:A{\n\
 1B0A:\u{C}\n\
@@ -60,29 +61,6 @@ const REFUSED: &str = "A:0:the name needs 1 bytes and has room for 0
 Я:2:the name needs 3 bytes and has room for 2
 \u{1F600}:10:UCS2 cannot write U+1F600
 A\u{FFFF}\u{1F600}:1:UCS2 cannot write U+FFFF";
-
-fn one_character(alloc: Global, character: char) -> Result<Text, Memory> {
-    let mut text = String::new(alloc);
-    text.push(character)?;
-    Ok(Text::from_string(text))
-}
-
-#[test]
-fn each_default_character_is_written_and_read(rt: HostRuntime) -> Result<(), Fail> {
-    let mut byte: u8 = 0;
-    for character in DEFAULT.chars() {
-        assert!(rt; byte < 128);
-        if byte != 0x1B {
-            let text = one_character(rt.alloc(), character)?;
-            let written = encode_alpha(rt.alloc(), &text, 1)?;
-            assert_eq!(rt; written.as_slice(), [byte].as_slice());
-            assert_eq!(rt; decode_alpha(rt.alloc(), &[byte])?.as_str(), text.as_str());
-        }
-        byte += 1;
-    }
-    assert_eq!(rt; byte, 128);
-    Ok(())
-}
 
 #[test]
 fn names_are_written_and_read(rt: HostRuntime) -> Result<(), Fail> {

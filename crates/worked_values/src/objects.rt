@@ -1,9 +1,8 @@
-// Objects read and written, by worked bytes.
+// Objects of worked bytes.
 
-use super::*;
-use arrayvec::ArrayVec;
 use std::alloc::Global;
 use std::test::Fail;
+use tlv::{BerReader, SimpleReader};
 
 /// A tag rule, bytes, and the objects that are read of them up to the end or an error.
 const OBJECTS: &str = "ber 800105A4810206079000:80 05;a4 0607;90 ;
@@ -60,22 +59,4 @@ fn reads_objects(rt: HostRuntime) -> Result<(), Fail> {
         assert_eq!(rt; found.as_str(), want, "at {case}");
     }
     Ok(())
-}
-
-#[test]
-fn answers_none_after_an_error(rt: HostRuntime) {
-    let mut reader = BerReader::new(&[0x1F, 0x01, 0x05, 0x80, 0x00]);
-    assert!(rt; reader.next() == Err(TlvError::BadTag { at: 0 }));
-    assert!(rt; reader.next() == Ok(None));
-}
-
-#[test]
-fn writes_the_shortest_length(rt: HostRuntime) {
-    let mut out: ArrayVec<u8, 137> = ArrayVec::new();
-    assert!(rt; put_tlv(&mut out, 0x8A, &[0x05]) == Ok(()));
-    assert!(rt; put_tlv(&mut out, 0x84, &[0x11; 128]) == Ok(()));
-    assert!(rt; out.as_slice().len() == 134);
-    assert!(rt; out[..6] == [0x8A, 0x01, 0x05, 0x84, 0x81, 0x80]);
-    assert!(rt; put_tlv(&mut out, 0x80, &[0x01, 0x02]) == Err(TlvError::NoRoom));
-    assert!(rt; put_tlv(&mut out, 0x80, &[0x01]) == Ok(()));
 }

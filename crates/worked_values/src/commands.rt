@@ -1,42 +1,11 @@
 // Worked proactive commands.
-ghost use Rattle.std.specs.Prelude.{◌≤◌, length, IfOk};
 
-use super::*;
-use apdu::Path;
-use arrayvec::ArrayVec;
+use refresh_cmd::{Proactive, read_proactive, write_terminal_response};
 use std::alloc::Global;
 use std::test::Fail;
 
-// REFRESH, file change notification, of EF_SPN of the application.
-const SPN_CHANGED: [u8; 20] = [
-    0xD0, 0x12, 0x81, 0x03, 0x01, 0x01, 0x01, 0x82, 0x02, 0x81, 0x82, 0x92, 0x07, 0x01, 0x3F, 0x00,
-    0x7F, 0xFF, 0x6F, 0x46,
-];
-
-// REFRESH, UICC reset, which has no file list.
-const RESET: [u8; 11] = [
-    0xD0, 0x09, 0x81, 0x03, 0x01, 0x01, 0x04, 0x82, 0x02, 0x81, 0x82,
-];
-
-fn spn_changed() -> Result<Proactive, Fail>
-    ensures { IfOk result (λ p. length p.list ≤ 8) }
-{
-    let mut list = ArrayVec::new_in(());
-    let path = Path::from_ids(&[0x7FFF, 0x6F46]).ok_or("path")?;
-    list.push(path);
-    Ok(Proactive {
-        number: 1,
-        kind: 1,
-        qualifier: 1,
-        list,
-    })
-}
-
 #[test]
-fn writes(rt: HostRuntime) -> Result<(), Fail> {
-    let p = spn_changed()?;
-    assert_eq!(rt; write_refresh(&p).as_slice(), SPN_CHANGED.as_slice());
-    assert_eq!(rt; write_proactive(1, 1, 4, &[]).as_slice(), RESET.as_slice());
+fn terminal_responses_are_written(rt: HostRuntime) {
     let response = [
         0x81, 0x03, 0x01, 0x01, 0x01, 0x82, 0x02, 0x82, 0x81, 0x83, 0x01, 0x00,
     ];
@@ -44,7 +13,6 @@ fn writes(rt: HostRuntime) -> Result<(), Fail> {
         write_terminal_response(1, 1, 1, 0).as_slice(),
         response.as_slice()
     );
-    Ok(())
 }
 
 /// Bytes, and the details and paths that are read of them. The last have tags without their bit 8, an object of another tag, two
@@ -86,7 +54,7 @@ fn command_text(alloc: Global, p: &Proactive) -> Result<String, Fail> {
 }
 
 #[test]
-fn reads(rt: HostRuntime) -> Result<(), Fail> {
+fn commands_are_read(rt: HostRuntime) -> Result<(), Fail> {
     for case in READ.lines() {
         let (bytes, want) = case.split_once(':').ok_or("bytes")?;
         let bytes = hex::decode(rt.alloc(), bytes)?;
@@ -97,7 +65,7 @@ fn reads(rt: HostRuntime) -> Result<(), Fail> {
 }
 
 #[test]
-fn refuses(rt: HostRuntime) -> Result<(), Fail> {
+fn commands_are_refused(rt: HostRuntime) -> Result<(), Fail> {
     for case in REFUSED.lines() {
         let (bytes, want) = case.split_once(':').ok_or("bytes")?;
         let bytes = hex::decode(rt.alloc(), bytes)?;

@@ -1,6 +1,6 @@
 // Digits of worked bytes.
 
-use super::*;
+use bcd::{read_digits, write_digits};
 use std::test::Fail;
 
 /// Digits, and the bytes that they are written as or why they are refused.

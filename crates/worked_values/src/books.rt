@@ -1,7 +1,7 @@
 // Phonebooks of worked rows.
 ghost use Rattle.std.specs.Prelude.{◌≤◌};
 
-use super::*;
+use adn::{Book, BookRow, decode_book};
 use fcp::{FileKind, Rows};
 use std::alloc::Global;
 use std::test::Fail;

@@ -1,7 +1,7 @@
 // Fields of worked bytes.
 
-use super::*;
 use apdu::Text;
+use sim_codecs::{Ad, AppRow, FieldError, Spn, ad, dir_row, iccid, imsi, spn};
 use std::alloc::{AllocError, Global};
 use std::test::Fail;
 
