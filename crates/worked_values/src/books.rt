@@ -1,13 +1,11 @@
 // Phonebooks of worked rows.
-ghost use Rattle.std.specs.Prelude.{◌≤◌};
-
 use adn::{Book, BookRow, decode_book};
 use fcp::{FileKind, Rows};
 use std::alloc::Global;
 use std::test::Fail;
 
 /// A main file, its extension file, and what each row of their book holds.
-const BOOKS: &str =
+pub const BOOKS: &str =
     "linear 426F62FFFFFFFFFFFFFF059151552143FFFFFFFFFFFFFFFF / missing:Bob +15551234;
 linear 80042F04300431FFFFFF0481A1CB0DFFFFFFFFFFFFFFFFFF / missing:Яаб 1*#,N0;
 linear 426F62FFFFFFFFFFFFFF059051552143FFFFFFFFFFFFFFFF / missing:Bob +15551234;
@@ -110,16 +108,11 @@ fn book_text(alloc: Global, book: &Book) -> Result<String, Fail> {
     Ok(text)
 }
 
-#[test]
-fn reads_books(rt: HostRuntime) -> Result<(), Fail> {
-    for case in BOOKS.lines() {
-        let (main, rest) = case.split_once(" / ").ok_or("a main file")?;
-        let (ext, want) = rest.split_once(':').ok_or("an extension file")?;
-        let main = file(rt.alloc(), main)?;
-        let ext = file(rt.alloc(), ext)?;
-        let book = decode_book(rt.alloc(), &main, &ext)?;
-        let found = book_text(rt.alloc(), &book)?;
-        assert_eq!(rt; found.as_str(), want, "at {case}");
-    }
-    Ok(())
+/// The rows of the book of a main file and its extension file.
+pub fn book_of(alloc: Global, files: &str) -> Result<String, Fail> {
+    let (main, ext) = files.split_once(" / ").ok_or("two files")?;
+    let main = file(alloc, main)?;
+    let ext = file(alloc, ext)?;
+    let book = decode_book(alloc, &main, &ext)?;
+    book_text(alloc, &book)
 }

@@ -4,27 +4,16 @@ use refresh_cmd::{Proactive, read_proactive, write_terminal_response};
 use std::alloc::Global;
 use std::test::Fail;
 
-#[test]
-fn terminal_responses_are_written(rt: HostRuntime) {
-    let response = [
-        0x81, 0x03, 0x01, 0x01, 0x01, 0x82, 0x02, 0x82, 0x81, 0x83, 0x01, 0x00,
-    ];
-    assert_eq!(rt;
-        write_terminal_response(1, 1, 1, 0).as_slice(),
-        response.as_slice()
-    );
-}
-
 /// Bytes, and the details and paths that are read of them. The last have tags without their bit 8, an object of another tag, two
 /// objects of a tag, a file list of two paths, and bytes behind.
-const READ: &str = "D0128103010101820281829207013F007FFF6F46:1 1 1 7FFF6F46
+pub const READ: &str = "D0128103010101820281829207013F007FFF6F46:1 1 1 7FFF6F46
 D009810301010482028182:1 1 4
 D020120D023F002FE23F007FFF6F3A4F2205014101030201038103090909020281820000:2 1 3 2FE2 7FFF6F3A4F22";
 
 /// Bytes, and why they are no proactive command: the tag; damage, which is told before anything that is missing; an object that is
 /// missing or has another length; a list of no count, of another, of a path that does not begin with the master file, of that file
 /// alone, of four further ids, and of a byte left over.
-const REFUSED: &str = ":the tag 00 is not D0
+pub const REFUSED: &str = ":the tag 00 is not D0
 8103:the tag 81 is not D0
 D009810301010482:the objects cannot be read: the object at byte 0 passes the end
 D0820000:the objects cannot be read: the length at byte 1 is neither one byte below 80 nor 81 and a byte
@@ -53,25 +42,23 @@ fn command_text(alloc: Global, p: &Proactive) -> Result<String, Fail> {
     Ok(text)
 }
 
-#[test]
-fn commands_are_read(rt: HostRuntime) -> Result<(), Fail> {
-    for case in READ.lines() {
-        let (bytes, want) = case.split_once(':').ok_or("bytes")?;
-        let bytes = hex::decode(rt.alloc(), bytes)?;
-        let found = command_text(rt.alloc(), &read_proactive(&bytes)?)?;
-        assert_eq!(rt; found.as_str(), want, "at {case}");
+pub fn command_of(alloc: Global, bytes: &str) -> Result<String, Fail> {
+    let bytes = hex::decode(alloc, bytes)?;
+    match read_proactive(&bytes) {
+        Ok(command) => command_text(alloc, &command),
+        Err(error) => Ok(format!(in alloc; "{error}")?),
     }
-    Ok(())
 }
 
-#[test]
-fn commands_are_refused(rt: HostRuntime) -> Result<(), Fail> {
-    for case in REFUSED.lines() {
-        let (bytes, want) = case.split_once(':').ok_or("bytes")?;
-        let bytes = hex::decode(rt.alloc(), bytes)?;
-        let error = read_proactive(&bytes).err().ok_or("a refusal")?;
-        let found = format!(in rt.alloc(); "{error}")?;
-        assert_eq!(rt; found.as_str(), want, "at {case}");
+/// The body of a TERMINAL RESPONSE with this number, kind, qualifier and general result, a byte each.
+pub fn terminal_response_of(alloc: Global, bytes: &str) -> Result<String, Fail> {
+    match hex::decode(alloc, bytes)?.as_slice() {
+        [number, kind, qualifier, result] => {
+            let response = write_terminal_response(*number, *kind, *qualifier, *result);
+            Ok(hex::encode(alloc, response.as_slice())?)
+        }
+        _ => Err("four bytes".into()),
     }
-    Ok(())
 }
+
+pub const TERMINAL_RESPONSES: &str = "01010100:810301010182028281830100";

@@ -1,10 +1,11 @@
 // Digits of worked bytes.
 
 use bcd::{read_digits, write_digits};
+use std::alloc::Global;
 use std::test::Fail;
 
 /// Digits, and the bytes that they are written as or why they are refused.
-const WRITTEN: &str = ":
+pub const WRITTEN: &str = ":
 7:f7
 12:21
 123:21f3
@@ -19,7 +20,7 @@ n:byte 0 is no digit
 12345678901234567890123456789012345678901!:byte 41 is no digit";
 
 /// Bytes, and the digits that they are read as.
-const READ: &str = ":
+pub const READ: &str = ":
 f7:7
 21:12
 21f3:123
@@ -33,29 +34,15 @@ ff12:
 21f3ff:123
 21ffff:12";
 
-#[test]
-fn digits_are_written(rt: HostRuntime) -> Result<(), Fail> {
-    for case in WRITTEN.lines() {
-        let (digits, want) = case.split_once(':').ok_or("digits")?;
-        let found = match write_digits(digits.as_bytes()) {
-            Ok(bytes) => hex::encode(rt.alloc(), bytes.as_slice())?,
-            Err(error) => format!(in rt.alloc(); "{error}")?,
-        };
-        assert_eq!(rt; found.as_str(), want, "at {case}");
-    }
-    Ok(())
+pub fn written_of(alloc: Global, digits: &str) -> Result<String, Fail> {
+    Ok(match write_digits(digits.as_bytes()) {
+        Ok(bytes) => hex::encode(alloc, bytes.as_slice())?,
+        Err(error) => format!(in alloc; "{error}")?,
+    })
 }
 
-#[test]
-fn digits_are_read(rt: HostRuntime) -> Result<(), Fail> {
-    for case in READ.lines() {
-        let (bytes, want) = case.split_once(':').ok_or("bytes")?;
-        let bytes = hex::decode(rt.alloc(), bytes)?;
-        assert_eq!(rt;
-            read_digits(rt.alloc(), &bytes)?.as_str(),
-            want,
-            "at {case}"
-        );
-    }
-    Ok(())
+pub fn digits_of(alloc: Global, bytes: &str) -> Result<String, Fail> {
+    let bytes = hex::decode(alloc, bytes)?;
+    let digits = read_digits(alloc, &bytes)?;
+    Ok(String::from_str(alloc, digits.as_str())?)
 }

@@ -18,3 +18,5 @@ mod objects;
 mod parameters;
 #[cfg(test)]
 mod streams;
+#[cfg(test)]
+mod tables;

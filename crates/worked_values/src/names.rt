@@ -2,10 +2,11 @@
 
 use alpha::{decode_alpha, encode_alpha};
 use apdu::Text;
+use std::alloc::Global;
 use std::test::Fail;
 
 /// Bytes, and the name that they are read as and written from.
-const BOTH_WAYS: &str = ":\n\
+pub const BOTH_WAYS: &str = ":\n\
 000102030405060708090B0C0E0F101112131415161718191A1C1D1E1F:@£$¥èéùìòÇØøÅåΔ_ΦΓΛΩΠΨΣΘΞÆæßÉ\n\
 202122232425262728292A2B2C2D2E2F303132333435363738393A3B3C3D3E3F: !\"#¤%&'()*+,-./0123456789:;<=>?\n\
 404142434445464748494A4B4C4D4E4F505152535455565758595A5B5C5D5E5F:¡ABCDEFGHIJKLMNOPQRSTUVWXYZÄÖÑÜ§\n\
@@ -32,7 +33,7 @@ FFFF:\n\
 80FFFDFFFEFFFF:\u{FFFD}\u{FFFE}";
 
 /// Other bytes, and the name that they are read as.
-const READ: &str = "41FF42:A\n\
+pub const READ: &str = "41FF42:A\n\
 4180FE:A\u{FFFD}\u{FFFD}\n\
 80042FFFFF0430:Я\n\
 80D800DFFFE000:\u{FFFD}\u{FFFD}\u{E000}\n\
@@ -55,55 +56,36 @@ const READ: &str = "41FF42:A\n\
 8102081BAF: Я\n\
 8101081B65: ";
 
-/// A name, the room for it, and why it cannot be written.
-const REFUSED: &str = "A:0:the name needs 1 bytes and has room for 0
-€:1:the name needs 2 bytes and has room for 1
-Я:2:the name needs 3 bytes and has room for 2
-\u{1F600}:10:UCS2 cannot write U+1F600
-A\u{FFFF}\u{1F600}:1:UCS2 cannot write U+FFFF";
+/// The room for a name, the name, and why it cannot be written.
+pub const REFUSED: &str = "0 A:the name needs 1 bytes and has room for 0
+1 €:the name needs 2 bytes and has room for 1
+2 Я:the name needs 3 bytes and has room for 2
+10 \u{1F600}:UCS2 cannot write U+1F600
+1 A\u{FFFF}\u{1F600}:UCS2 cannot write U+FFFF";
 
-#[test]
-fn names_are_written_and_read(rt: HostRuntime) -> Result<(), Fail> {
-    for case in BOTH_WAYS.lines() {
-        let (hex, name) = case.split_once(':').ok_or("bytes")?;
-        let bytes = hex::decode(rt.alloc(), hex)?;
-        let text = Text::from_str(rt.alloc(), name)?;
-        let written = encode_alpha(rt.alloc(), &text, bytes.len())?;
-        assert_eq!(rt; written.as_slice(), bytes.as_slice(), "at {case}");
-        assert_eq!(rt;
-            decode_alpha(rt.alloc(), &bytes)?.as_str(),
-            name,
-            "at {case}"
-        );
+/// The name that the bytes are read as and written from.
+pub fn both_ways(alloc: Global, bytes: &str) -> Result<String, Fail> {
+    let bytes = hex::decode(alloc, bytes)?;
+    let name = decode_alpha(alloc, &bytes)?;
+    let written = encode_alpha(alloc, &name, bytes.len())?;
+    if written.as_slice() != bytes.as_slice() {
+        return Err("written otherwise".into());
     }
-    Ok(())
+    Ok(String::from_str(alloc, name.as_str())?)
 }
 
-#[test]
-fn other_bytes_are_read(rt: HostRuntime) -> Result<(), Fail> {
-    for case in READ.lines() {
-        let (hex, name) = case.split_once(':').ok_or("bytes")?;
-        let bytes = hex::decode(rt.alloc(), hex)?;
-        assert_eq!(rt;
-            decode_alpha(rt.alloc(), &bytes)?.as_str(),
-            name,
-            "at {case}"
-        );
-    }
-    Ok(())
+pub fn name_of(alloc: Global, bytes: &str) -> Result<String, Fail> {
+    let bytes = hex::decode(alloc, bytes)?;
+    let name = decode_alpha(alloc, &bytes)?;
+    Ok(String::from_str(alloc, name.as_str())?)
 }
 
-#[test]
-fn other_names_are_refused(rt: HostRuntime) -> Result<(), Fail> {
-    for case in REFUSED.lines() {
-        let (name, rest) = case.split_once(':').ok_or("a name")?;
-        let (room, want) = rest.split_once(':').ok_or("a room")?;
-        let text = Text::from_str(rt.alloc(), name)?;
-        let error = encode_alpha(rt.alloc(), &text, room.parse()?)
-            .err()
-            .ok_or("a refusal")?;
-        let found = format!(in rt.alloc(); "{error}")?;
-        assert_eq!(rt; found.as_str(), want, "at {case}");
-    }
-    Ok(())
+/// Why a name cannot be written in this room.
+pub fn refusal_of(alloc: Global, name: &str) -> Result<String, Fail> {
+    let (room, name) = name.split_once(' ').ok_or("a room")?;
+    let name = Text::from_str(alloc, name)?;
+    let error = encode_alpha(alloc, &name, room.parse()?)
+        .err()
+        .ok_or("a refusal")?;
+    Ok(format!(in alloc; "{error}")?)
 }

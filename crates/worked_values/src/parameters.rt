@@ -1,13 +1,13 @@
 // Control parameters and access rules of worked bytes.
 
 use fcp::{read_fcp, read_rule};
-use std::alloc::{AllocError, Global};
+use std::alloc::Global;
 use std::test::Fail;
 
 /// Bytes, and the parameters that they are read as: the kind, the size, the id, the width and the count of rows, whether it is active, its rule.
 /// Then bytes of other cards: any order, other tags, a second object of a tag, a size of four bytes, a reference of one byte, bytes behind the
 /// template; a directory of which no life cycle is told, and whose size is not read. Then bytes that are refused.
-const PARAMETERS: &str =
+pub const PARAMETERS: &str =
     "620F8202412183022FE28A01058002000A:Transparent 10 Some(12258) 0 0 true None
 621782054221001CFA83026F3A8A01048B036F060380021B58:Linear 7000 Some(28474) 28 250 false Some(ArrRef { file_id: 28422, row: 3 })
 620B8202782183027F108A0105:Directory 0 Some(32528) 0 0 true None
@@ -32,7 +32,7 @@ const PARAMETERS: &str =
 620A8202412183022FE28000:the value of tag 80 is none that is read";
 
 /// A rule, and what reading and updating ask for.
-const RULES: &str = ":Never Never
+pub const RULES: &str = ":Never Never
 800101A406830101950108:Key(1) Never
 800101A406830101950108800102A406830181950108:Key(1) Key(129)
 8081010390008001029700:Always Always
@@ -40,37 +40,21 @@ const RULES: &str = ":Never Never
 80010190001F8001029000:Always Never
 90008001039000:Never Never";
 
-fn parameters_text(alloc: Global, bytes: &[u8]) -> Result<String, AllocError> {
-    match read_fcp(bytes) {
+pub fn parameters_of(alloc: Global, bytes: &str) -> Result<String, Fail> {
+    let bytes = hex::decode(alloc, bytes)?;
+    Ok(match read_fcp(&bytes) {
         Ok(fcp) => {
             format!(in alloc;
                 "{:?} {} {:?} {} {} {} {:?}",
                 fcp.kind, fcp.size, fcp.file_id, fcp.width, fcp.count, fcp.active, fcp.arr
-            )
+            )?
         }
-        Err(error) => format!(in alloc; "{error}"),
-    }
+        Err(error) => format!(in alloc; "{error}")?,
+    })
 }
 
-#[test]
-fn parameters_are_read(rt: HostRuntime) -> Result<(), Fail> {
-    for case in PARAMETERS.lines() {
-        let (bytes, want) = case.split_once(':').ok_or("bytes")?;
-        let bytes = hex::decode(rt.alloc(), bytes)?;
-        let found = parameters_text(rt.alloc(), &bytes)?;
-        assert_eq!(rt; found.as_str(), want, "at {case}");
-    }
-    Ok(())
-}
-
-#[test]
-fn rules_are_read(rt: HostRuntime) -> Result<(), Fail> {
-    for case in RULES.lines() {
-        let (bytes, want) = case.split_once(':').ok_or("bytes")?;
-        let bytes = hex::decode(rt.alloc(), bytes)?;
-        let rule = read_rule(&bytes);
-        let found = format!(in rt.alloc(); "{:?} {:?}", rule.read, rule.update)?;
-        assert_eq!(rt; found.as_str(), want, "at {case}");
-    }
-    Ok(())
+pub fn rule_of(alloc: Global, bytes: &str) -> Result<String, Fail> {
+    let bytes = hex::decode(alloc, bytes)?;
+    let rule = read_rule(&bytes);
+    Ok(format!(in alloc; "{:?} {:?}", rule.read, rule.update)?)
 }
