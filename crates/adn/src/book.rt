@@ -25,7 +25,8 @@ pub fn decode_book(alloc: Global, main: &Rows, ext: &Rows) -> Result<Book, Memor
 
 /// What a row of the main file holds.
 fn book_row(alloc: Global, ext: &Rows, row: &[u8]) -> Result<BookRow, Memory>
-    ensures { IfOk result (λ found. found ≡ phonebook.book_row (phonebook.extension_rows ext.now) row.now) }
+    ensures { IfOk result (λ found. found
+        ≡ phonebook.book_row (phonebook.extension_rows ext.now) row.now) }
 {
     if row.len() < FOOTER_LEN {
         return Ok(BookRow::Unreadable);
@@ -37,7 +38,8 @@ fn book_row(alloc: Global, ext: &Rows, row: &[u8]) -> Result<BookRow, Memory>
 /// What a row holds that has these bytes for its name, and these behind it.
 fn row_of(alloc: Global, ext: &Rows, name: &[u8], footer: &[u8]) -> Result<BookRow, Memory>
     requires { length footer.now ≡ 14 }
-    ensures { IfOk result (λ found. found ≡ phonebook.row_of (phonebook.extension_rows ext.now) name.now footer.now) }
+    ensures { IfOk result (λ found. found
+        ≡ phonebook.row_of (phonebook.extension_rows ext.now) name.now footer.now) }
 {
     if (12..=254).contains(&footer[0]) {
         return Ok(BookRow::Unreadable);

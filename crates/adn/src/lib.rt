@@ -10,6 +10,3 @@ mod number;
 pub use book::decode_book;
 pub use edit::{Edit, Plan, PlanError, RowUpdate};
 pub use entry::{AdnEntry, Book, BookRow};
-
-#[cfg(test)]
-mod tests;

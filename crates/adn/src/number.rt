@@ -18,7 +18,8 @@ const EXTENSION_LEN: u16 = 13;
 /// The number in the bytes behind a name.
 pub fn number_of(alloc: Global, ext: &Rows, footer: &[u8]) -> Result<Text, Memory>
     requires { length footer.now ≡ 14 }
-    ensures { IfOk result (λ number. number ≡ phonebook.number_of (phonebook.extension_rows ext.now) footer.now) }
+    ensures { IfOk result (λ number. number
+        ≡ phonebook.number_of (phonebook.extension_rows ext.now) footer.now) }
 {
     let own = read_digits(alloc, own_bytes(footer))?;
     if is_empty(&own) {
@@ -40,7 +41,8 @@ fn signed_digits(
     own: &str,
     further: &str,
 ) -> Result<Text, Memory>
-    ensures { IfOk result (λ number. number ≡ phonebook.signed_digits international own.now further.now) }
+    ensures { IfOk result (λ number. number
+        ≡ phonebook.signed_digits international own.now further.now) }
 {
     let mut number = String::new(alloc);
     number.push_str(if international { "+" } else { "" })?;
@@ -87,7 +89,8 @@ fn further_bytes<'a>(ext: &'a Rows, footer: &[u8]) -> &'a [u8]
 
 /// The extension row of a number, counted from 1. A file that is not linear, or too narrow, has none.
 fn extension_row(ext: &Rows, number: u8) -> Option<&[u8]>
-    ensures { option_map (λ row. row.now) result ≡ phonebook.extension_row (phonebook.extension_rows ext.now) number }
+    ensures { option_map (λ row. row.now) result
+        ≡ phonebook.extension_row (phonebook.extension_rows ext.now) number }
 {
     if ext.kind() != FileKind::Linear || ext.width() < EXTENSION_LEN {
         return None;

@@ -19,7 +19,8 @@ pub fn decode_alpha(alloc: Global, bytes: &[u8]) -> Result<Text, Memory>
 }
 
 fn put_name(name: &mut String, bytes: &[u8]) -> Result<(), Memory>
-    ensures { OnOk result (string_bytes name.new ≡ string_bytes name.old ++ encode_utf8_all (name_characters bytes.now)) }
+    ensures { OnOk result (string_bytes name.new
+        ≡ string_bytes name.old ++ encode_utf8_all (name_characters bytes.now)) }
 {
     let [form, rest @ ..] = bytes else {
         return Ok(());
@@ -34,7 +35,8 @@ fn put_name(name: &mut String, bytes: &[u8]) -> Result<(), Memory>
 
 /// Units of two bytes up to the unit FFFF or the last whole pair.
 fn put_units(name: &mut String, bytes: &[u8]) -> Result<(), Memory>
-    ensures { OnOk result (string_bytes name.new ≡ string_bytes name.old ++ encode_utf8_all (unit_characters bytes.now)) }
+    ensures { OnOk result (string_bytes name.new
+        ≡ string_bytes name.old ++ encode_utf8_all (unit_characters bytes.now)) }
 {
     let mut rest = bytes;
     while let [high, low, others @ ..] = rest {
@@ -50,7 +52,8 @@ fn put_units(name: &mut String, bytes: &[u8]) -> Result<(), Memory>
 
 /// A count, bits 15 to 8 of the base, and that many bytes.
 fn put_narrow(name: &mut String, bytes: &[u8]) -> Result<(), Memory>
-    ensures { OnOk result (string_bytes name.new ≡ string_bytes name.old ++ encode_utf8_all (narrow_characters bytes.now)) }
+    ensures { OnOk result (string_bytes name.new
+        ≡ string_bytes name.old ++ encode_utf8_all (narrow_characters bytes.now)) }
 {
     let [count, base, rest @ ..] = bytes else {
         return Ok(());
@@ -64,7 +67,8 @@ fn put_narrow(name: &mut String, bytes: &[u8]) -> Result<(), Memory>
 
 /// A count, the base in two bytes, and that many bytes.
 fn put_wide(name: &mut String, bytes: &[u8]) -> Result<(), Memory>
-    ensures { OnOk result (string_bytes name.new ≡ string_bytes name.old ++ encode_utf8_all (wide_characters bytes.now)) }
+    ensures { OnOk result (string_bytes name.new
+        ≡ string_bytes name.old ++ encode_utf8_all (wide_characters bytes.now)) }
 {
     let [count, high, low, rest @ ..] = bytes else {
         return Ok(());
@@ -75,7 +79,8 @@ fn put_wide(name: &mut String, bytes: &[u8]) -> Result<(), Memory>
 
 /// The bytes before the first FF, in the default alphabet.
 fn put_default(name: &mut String, bytes: &[u8]) -> Result<(), Memory>
-    ensures { OnOk result (string_bytes name.new ≡ string_bytes name.old ++ encode_utf8_all (default_characters bytes.now)) }
+    ensures { OnOk result (string_bytes name.new
+        ≡ string_bytes name.old ++ encode_utf8_all (default_characters bytes.now)) }
 {
     put_alphabet(name, None, before_fill(bytes))
 }
@@ -109,7 +114,8 @@ fn fill_at(bytes: &[u8]) -> Option<usize>
 /// Bytes in the default alphabet, those with bit 8 past the base.
 fn put_alphabet(name: &mut String, base: Option<u32>, bytes: &[u8]) -> Result<(), Memory>
     requires { IfSome base (λ base. base < 2 ^ 16) }
-    ensures { OnOk result (string_bytes name.new ≡ string_bytes name.old ++ encode_utf8_all (alphabet_characters base false bytes.now)) }
+    ensures { OnOk result (string_bytes name.new
+        ≡ string_bytes name.old ++ encode_utf8_all (alphabet_characters base false bytes.now)) }
 {
     let mut after_escape = false;
     for byte in bytes {
@@ -125,7 +131,8 @@ fn put_alphabet(name: &mut String, base: Option<u32>, bytes: &[u8]) -> Result<()
 /// What one byte reads as, behind an escape or not.
 fn put_byte(name: &mut String, base: Option<u32>, escaped: bool, byte: u8) -> Result<(), Memory>
     requires { IfSome base (λ base. base < 2 ^ 16) }
-    ensures { OnOk result (string_bytes name.new ≡ string_bytes name.old ++ encode_utf8_all (byte_characters base escaped byte)) }
+    ensures { OnOk result (string_bytes name.new
+        ≡ string_bytes name.old ++ encode_utf8_all (byte_characters base escaped byte)) }
 {
     if byte >= 0x80 {
         if escaped {

@@ -40,7 +40,8 @@ impl From<Memory> for AlphaError {
 #[tactic(auto, using(crate::proofs::ReadBack::read_back))]
 pub fn encode_alpha(alloc: Global, text: &Text, room: usize) -> Result<Bytes, AlphaError>
     ensures accepted { OnOk result (name_refusal (chars text.now) room ≡ None) }
-    ensures refused { IfErr result (λ error. (error ≡ AlphaError.Memory) ⊎ (name_refusal (chars text.now) room ≡ Some error)) }
+    ensures refused { IfErr result (λ error. (error ≡ AlphaError.Memory)
+        ⊎ (name_refusal (chars text.now) room ≡ Some error)) }
 
     ensures written { IfOk result (λ bytes. bytes ≡ encode_name text.now room) }
     ensures filled { IfOk result (λ bytes. length bytes ≡ room) }
@@ -105,7 +106,8 @@ fn is_in_alphabet(character: char) -> bool
 }
 
 fn put_in_alphabet(bytes: &mut Vec<u8>, characters: &[char]) -> Result<(), Memory>
-    ensures { OnOk result (bytes.new.items ≡ bytes.old.items ++ flat_map (λ c. unwrap_or (alphabet_bytes c) []) characters.now) }
+    ensures { OnOk result (bytes.new.items
+        ≡ bytes.old.items ++ flat_map (λ c. unwrap_or (alphabet_bytes c) []) characters.now) }
 {
     for character in characters {
         put_alphabet_bytes(bytes, *character)?;
@@ -115,7 +117,8 @@ fn put_in_alphabet(bytes: &mut Vec<u8>, characters: &[char]) -> Result<(), Memor
 
 /// The bytes of a character in the default alphabet.
 fn put_alphabet_bytes(bytes: &mut Vec<u8>, character: char) -> Result<(), Memory>
-    ensures { OnOk result (bytes.new.items ≡ bytes.old.items ++ unwrap_or (alphabet_bytes character) []) }
+    ensures { OnOk result (bytes.new.items
+        ≡ bytes.old.items ++ unwrap_or (alphabet_bytes character) []) }
 {
     if let Some(byte) = default_byte(character) {
         bytes.push(byte as u8)?;
@@ -129,7 +132,8 @@ fn put_alphabet_bytes(bytes: &mut Vec<u8>, character: char) -> Result<(), Memory
 #[tactic(auto, using(crate::proofs::ReadBack::writable_at))]
 fn put_in_units(bytes: &mut Vec<u8>, characters: &[char]) -> Result<(), Memory>
     requires { not_writable characters.now ≡ None }
-    ensures { OnOk result (bytes.new.items ≡ bytes.old.items ++ flat_map two_bytes characters.now) }
+    ensures { OnOk result (bytes.new.items
+        ≡ bytes.old.items ++ flat_map two_bytes characters.now) }
 {
     for character in characters {
         put_unit(bytes, *character)?;

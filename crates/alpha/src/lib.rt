@@ -8,6 +8,3 @@ mod tables;
 
 pub use decode::decode_alpha;
 pub use encode::{AlphaError, encode_alpha};
-
-#[cfg(test)]
-mod tests;

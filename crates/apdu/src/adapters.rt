@@ -10,7 +10,7 @@ pub struct ReaderSource<R> {
     reader: R,
     ended: bool,
     given: u64,
-    pub(crate) faults: u64,
+    faults: u64,
 }
 
 impl<R: Read> ReaderSource<R> {
@@ -54,8 +54,8 @@ impl<R: Read> Source for ReaderSource<R> {
 /// A sink into a writer, such as standard output.
 #[derive(Drop)]
 pub struct WriterSink<W> {
-    pub(crate) writer: W,
-    pub(crate) faults: u64,
+    writer: W,
+    faults: u64,
 }
 
 impl<W: Write> WriterSink<W> {

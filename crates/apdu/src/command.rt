@@ -85,7 +85,8 @@ impl Command {
         requires body { self.body ≡ [] }
         requires le { self.le ≡ None }
         ensures value { result ≡ spec.read_behind self rest.now }
-        ensures inverse { IfOk result (λ c. spec.command_bytes c ≡ spec.command_bytes self ++ rest.now) }
+        ensures inverse { IfOk result (λ c. spec.command_bytes c
+            ≡ spec.command_bytes self ++ rest.now) }
     {
         match rest {
             [] => Ok(self),
@@ -99,7 +100,8 @@ impl Command {
         requires le { self.le ≡ None }
         requires one_byte { lc ≤ 255 }
         ensures value { result ≡ spec.read_body self lc rest.now }
-        ensures inverse { IfOk result (λ c. spec.command_bytes c ≡ spec.command_bytes self ++ lc ∷ rest.now) }
+        ensures inverse { IfOk result (λ c. spec.command_bytes c
+            ≡ spec.command_bytes self ++ lc ∷ rest.now) }
     {
         let error = ApduError::BadLength {
             lc,

@@ -30,6 +30,3 @@ pub use sequence::Sequence;
 pub use status::Sw;
 pub use stream::{Failed, Sink, Source};
 pub use texts::{Bytes, Text};
-
-#[cfg(test)]
-mod tests;

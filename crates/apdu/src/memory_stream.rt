@@ -31,7 +31,14 @@ impl Model for MemorySource {
 
 impl MemorySource {
     pub fn new(bytes: Vec<u8>, failing: Vec<u64>) -> MemorySource
-        ensures { result ≡ record { left = bytes.items; given = 0; ended = false; failing = failing.items; calls = 0; faults = 0 } }
+        ensures { result ≡ record {
+          left = bytes.items;
+          given = 0;
+          ended = false;
+          failing = failing.items;
+          calls = 0;
+          faults = 0;
+        } }
     {
         MemorySource {
             bytes,
@@ -55,9 +62,11 @@ impl Source for MemorySource {
 
     fn read(&mut self, into: &mut [u8]) -> Result<usize, Failed>
         ensures room { IfOk result (λ n. n ≤ length into.new) }
-        ensures bytes { IfOk result (λ n. Reads (Some self.old.left) (Some self.new.left) n into.new) }
+        ensures bytes { IfOk result (λ n. Reads (Some self.old.left)
+            (Some self.new.left) n into.new) }
         ensures ended { IfOk result (λ n. 0 < length into.new → self.new.ended ≡ (n == 0)) }
-        ensures given { IfOk result (λ n. min self.new.given (2 ^ 64 - 1) ≡ min (min self.old.given (2 ^ 64 - 1) + n) (2 ^ 64 - 1)) }
+        ensures given { IfOk result (λ n. min self.new.given (2 ^ 64 - 1)
+            ≡ min (min self.old.given (2 ^ 64 - 1) + n) (2 ^ 64 - 1)) }
         ensures cause { HasCause self.old.faults self.new.faults result }
         ensures fails { is_err result ≡ is_one_of self.new.calls self.old.failing }
         ensures counts { self.new.calls ≡ min (self.old.calls + 1) (2 ^ 64 - 1) }
@@ -123,8 +132,10 @@ impl Sink for MemorySink {
     ghost faults = { λ s. s.faults };
 
     fn write(&mut self, piece: &[u8]) -> Result<(), Failed>
-        ensures ok { OnOk result (Appends (Some self.old.written) (Some self.new.written) piece.now) }
-        ensures err { OnErr result (AppendsPart (Some self.old.written) (Some self.new.written) piece.now) }
+        ensures ok { OnOk result (Appends (Some self.old.written)
+            (Some self.new.written) piece.now) }
+        ensures err { OnErr result (AppendsPart (Some self.old.written)
+            (Some self.new.written) piece.now) }
         ensures cause { HasCause self.old.faults self.new.faults result }
         ensures fails { IsTrue (is_one_of self.new.calls self.old.failing) → IsErr result }
         ensures counts { self.new.calls ≡ min (self.old.calls + 1) (2 ^ 64 - 1) }

@@ -121,6 +121,3 @@ fn value_of(text: u8) -> u8
 {
     half_of(text).unwrap_or(0) as u8
 }
-
-#[cfg(test)]
-mod tests;

@@ -12,7 +12,8 @@ use std::alloc::Global;
 
 /// The parts of the bytes before, between and behind the bytes of this value.
 pub fn parts_of(alloc: Global, at: u8, bytes: &[u8]) -> Result<Vec<&[u8]>, Memory>
-    ensures { IfOk result (λ parts. map (λ part. part.now) parts.items ≡ slice_split (λ b. b == at) bytes.now) }
+    ensures { IfOk result (λ parts. map (λ part. part.now) parts.items
+        ≡ slice_split (λ b. b == at) bytes.now) }
 {
     Ok(bytes.split(|b| *b == at).collect(alloc)?)
 }

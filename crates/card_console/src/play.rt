@@ -30,7 +30,8 @@ fn put_answer(
     slot: &mut SimSlot,
     call: &Call,
 ) -> Result<(), Memory>
-    ensures text { OnOk result (out.new.items ≡ out.old.items ++ spec.answer_text slot.old call.now) }
+    ensures text { OnOk result (out.new.items
+        ≡ out.old.items ++ spec.answer_text slot.old call.now) }
     ensures slot { slot.new ≡ after_call slot.old call.now }
 {
     match call {
@@ -77,7 +78,8 @@ pub fn put_lines(
     lines: &[&[u8]],
 ) -> Result<Option<u64>, Memory>
     ensures bad { IfOk result (λ bad. bad ≡ spec.first_bad 2 (map (λ line. line.now) lines.now)) }
-    ensures text { IfOk result (λ bad. bad ≡ None → out.new.items ≡ out.old.items ++ spec.played slot.old (map (λ line. line.now) lines.now)) }
+    ensures text { IfOk result (λ bad. bad ≡ None → out.new.items
+        ≡ out.old.items ++ spec.played slot.old (map (λ line. line.now) lines.now)) }
 {
     let mut number = 2u64;
     for line in lines {

@@ -44,7 +44,8 @@ fn play_script(
     lines: &[&[u8]],
 ) -> Result<Ending, Memory>
     requires { keeps_rules script.now ≡ true }
-    ensures { IfOk result (Tells (answer_of_script first.now (map (λ line. line.now) lines.now) script.now)) }
+    ensures { IfOk result (Tells (answer_of_script first.now
+        (map (λ line. line.now) lines.now) script.now)) }
 {
     let mut slot = slot_of(alloc, script)?;
     let mut out = first.to_vec(alloc)?;
@@ -61,7 +62,8 @@ fn play_script(
 
 /// The ending of a first line and the lines behind it.
 fn play_first(alloc: Global, first: &[u8], lines: &[&[u8]]) -> Result<Ending, Memory>
-    ensures { IfOk result (Tells (answer_of_reading first.now (map (λ line. line.now) lines.now) (script_of_bytes first.now))) }
+    ensures { IfOk result (Tells (answer_of_reading first.now
+        (map (λ line. line.now) lines.now) (script_of_bytes first.now))) }
 {
     match read_script(alloc, first) {
         Ok(script) => play_script(alloc, &script, first, lines),
@@ -129,7 +131,8 @@ pub fn top<S: Source, K: Sink>(alloc: Global, streams: &mut Streams<S, K>) -> u8
     ensures refused { result ≡ 3 → IsRefused streams.old streams.new }
     ensures read { result ≡ 4 → Rose streams.old.source.faults streams.new.source.faults }
     ensures write { result ≡ 5 → Rose streams.old.sink.faults streams.new.sink.faults }
-    ensures too_long { result ≡ 8 → HasMore conversation_limit streams.old.source streams.new.source }
+    ensures too_long { result ≡ 8
+        → HasMore conversation_limit streams.old.source streams.new.source }
     ensures known { IsTrue (is_status result) }
     ensures line { IfSome (line_of result) (Wrote streams.old streams.new) }
     ensures part { result ≡ 5 → WritesPart streams.old streams.new }

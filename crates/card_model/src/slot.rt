@@ -46,7 +46,8 @@ pub trait Slot {
         ensures tells { StaysTold (world self.old) (world self.new) }
         ensures tells_plan { StaysTold (plan self.old) (plan self.new) }
         ensures counts { Counts (plan self.old) (plan self.new) }
-        ensures planned { ExchangesAsPlanned (plan self.old) (world self.old) (world self.new) command.now result }
+        ensures planned { ExchangesAsPlanned (plan self.old)
+            (world self.old) (world self.new) command.now result }
         ensures cause { HasCause (faults self.old) (faults self.new) result };
 
     /// Resets the card.
@@ -64,7 +65,8 @@ pub trait Slot {
 pub trait ScriptedSlot: Slot {
     /// Makes a world event happen.
     fn world(&mut self, event: &WorldEvent) -> Result<(), WorldRefusal>
-        ensures ok { OnOk result (Happens (Self.Slot.world self.old) (Self.Slot.world self.new) event.now) }
+        ensures ok { OnOk result (Happens (Self.Slot.world self.old)
+            (Self.Slot.world self.new) event.now) }
         ensures err { OnErr result (Self.Slot.world self.new ≡ Self.Slot.world self.old) }
         ensures tells { StaysTold (Self.Slot.world self.old) (Self.Slot.world self.new) }
         ensures refused { IsRefused (Self.Slot.world self.old) event.now result }

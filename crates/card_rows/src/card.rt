@@ -55,8 +55,10 @@ fn on_row<'a>(
     requires row { instruction_of command.now.ins ≡ Some row }
     ensures fits { IsFittingCard card.new }
     ensures shapes { shapes card.new.files ≡ shapes card.old.files }
-    ensures fetched { IfSome result.fetched (λ change. Some change.now ≡ first_armed changes.now card.old) }
-    ensures value { (with_fetched card.new (option_copied result.fetched), result.response) ≡ table.on_row changes.now card.old place channel.now command.now row }
+    ensures fetched { IfSome result.fetched (λ change. Some change.now
+        ≡ first_armed changes.now card.old) }
+    ensures value { (with_fetched card.new (option_copied result.fetched), result.response)
+        ≡ table.on_row changes.now card.old place channel.now command.now row }
 {
     let response = match row {
         Instruction::Fetch => return fetch_row(changes, card, command),
@@ -88,8 +90,11 @@ fn on_kind<'a>(
     requires place { place < length card.old.channels }
     ensures fits { IsFittingCard card.new }
     ensures shapes { shapes card.new.files ≡ shapes card.old.files }
-    ensures fetched { IfSome result.fetched (λ change. Some change.now ≡ first_armed changes.now card.old) }
-    ensures value { (with_fetched card.new (option_copied result.fetched), result.response) ≡ table.on_kind changes.now card.old place channel.now kind command.now (instruction_of command.now.ins) }
+    ensures fetched { IfSome result.fetched (λ change. Some change.now
+        ≡ first_armed changes.now card.old) }
+    ensures value { (with_fetched card.new (option_copied result.fetched), result.response)
+        ≡ table.on_kind changes.now card.old place channel.now kind command.now
+        (instruction_of command.now.ins) }
 {
     let Some(row) = Instruction::from_byte(command.ins) else {
         return Outcome::of(refused(0x6D00));
@@ -113,8 +118,11 @@ fn on_place<'a>(
     requires place { place < length card.old.channels }
     ensures fits { IsFittingCard card.new }
     ensures shapes { shapes card.new.files ≡ shapes card.old.files }
-    ensures fetched { IfSome result.fetched (λ change. Some change.now ≡ first_armed changes.now card.old) }
-    ensures value { (with_fetched card.new (option_copied result.fetched), result.response) ≡ table.on_channel changes.now card.old place kind (slice_get card.old.channels place) command.now }
+    ensures fetched { IfSome result.fetched (λ change. Some change.now
+        ≡ first_armed changes.now card.old) }
+    ensures value { (with_fetched card.new (option_copied result.fetched), result.response)
+        ≡ table.on_channel changes.now card.old place kind
+        (slice_get card.old.channels place) command.now }
 {
     let channel = match card.channels.get(place) {
         Some(channel) => copy_of(channel),
@@ -130,8 +138,10 @@ pub fn on_card<'a>(changes: &'a Changes, card: &mut CardState, command: &Command
     requires card { IsFittingCard card.old }
     ensures fits { IsFittingCard card.new }
     ensures shapes { shapes card.new.files ≡ shapes card.old.files }
-    ensures fetched { IfSome result.fetched (λ change. Some change.now ≡ first_armed changes.now card.old) }
-    ensures value { (with_fetched card.new (option_copied result.fetched), result.response) ≡ table.on_card changes.now card.old command.now }
+    ensures fetched { IfSome result.fetched (λ change. Some change.now
+        ≡ first_armed changes.now card.old) }
+    ensures value { (with_fetched card.new (option_copied result.fetched), result.response)
+        ≡ table.on_card changes.now card.old command.now }
 {
     let Some((kind, number)) = channel_of(command.class) else {
         return Outcome::of(refused(0x6E00));

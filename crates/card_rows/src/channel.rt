@@ -85,7 +85,8 @@ fn is_visible(card: &CardState, channel: &ChannelState, path: &[u16]) -> bool
 // The file of a path as the channel sees it.
 fn file_seen<'a>(card: &'a CardState, channel: &ChannelState, path: &[u16]) -> Option<&'a FileState>
     ensures value { option_copied result ≡ model.file_seen card.now channel.now path.now }
-    ensures fits { All HasFittingParameters card.now.files → IfSome result (λ f. HasFittingParameters f.now) }
+    ensures fits { All HasFittingParameters card.now.files
+        → IfSome result (λ f. HasFittingParameters f.now) }
 {
     if is_visible(card, channel, path) {
         file_at(path, card)
@@ -109,7 +110,8 @@ fn place_seen(card: &CardState, channel: &ChannelState, path: &[u16]) -> Option<
 /// The file that is current, where that is no directory.
 pub fn current_file<'a>(card: &'a CardState, channel: &ChannelState) -> Option<&'a FileState>
     ensures value { option_copied result ≡ model.current_file card.now channel.now }
-    ensures fits { All HasFittingParameters card.now.files → IfSome result (λ f. HasFittingParameters f.now) }
+    ensures fits { All HasFittingParameters card.now.files
+        → IfSome result (λ f. HasFittingParameters f.now) }
 {
     match &channel.current {
         Some(path) => file_seen(card, channel, path.ids()),

@@ -19,8 +19,10 @@ pub fn fetch_row<'a>(changes: &'a Changes, card: &mut CardState, command: &Comma
     requires card { IsFittingCard card.old }
     ensures fits { IsFittingCard card.new }
     ensures files { card.new.files ≡ card.old.files }
-    ensures fetched { IfSome result.fetched (λ change. Some change.now ≡ armed_first changes.now card.old) }
-    ensures value { (with_fetched card.new (option_copied result.fetched), result.response) ≡ table.fetch_row changes.now card.old command.now }
+    ensures fetched { IfSome result.fetched (λ change. Some change.now
+        ≡ armed_first changes.now card.old) }
+    ensures value { (with_fetched card.new (option_copied result.fetched), result.response)
+        ≡ table.fetch_row changes.now card.old command.now }
 {
     if parameters(command) != 0 {
         return Outcome::of(refused(0x6A86));

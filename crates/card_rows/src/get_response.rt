@@ -45,7 +45,8 @@ pub fn get_response_row(
     requires changes { All IsFittingChange changes.now }
     requires card { IsFittingCard card.old }
     ensures fits { IsFittingCard card.new }
-    ensures value { (card.new, result) ≡ table.get_response_row changes.now card.old channel.now command.now }
+    ensures value { (card.new, result)
+        ≡ table.get_response_row changes.now card.old channel.now command.now }
 {
     if parameters(command) != 0 {
         return refused(0x6A86);

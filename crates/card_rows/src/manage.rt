@@ -47,7 +47,8 @@ fn open_number(changes: &Changes, card: &mut CardState) -> Response
     requires changes { All IsFittingChange changes.now }
     requires card { IsFittingCard card.old }
     ensures fits { IsFittingCard card.new }
-    ensures value { (card.new, result) ≡ table.open_number changes.now card.old (table.free_number card.old) }
+    ensures value { (card.new, result)
+        ≡ table.open_number changes.now card.old (table.free_number card.old) }
 {
     let Some(number) = free_number(card) else {
         return refused(0x6A81);

@@ -50,7 +50,8 @@ fn read_record(
 ) -> Response
     requires changes { All IsFittingChange changes.now }
     requires short { IfSome found (λ bytes. length bytes.now ≤ 255) }
-    ensures { (card.now, result) ≡ table.read_record changes.now card.now file.now le (option_copied found.entry) }
+    ensures { (card.now, result)
+        ≡ table.read_record changes.now card.now file.now le (option_copied found.entry) }
 {
     let Some(bytes) = found else {
         return refused(0x6A83);
@@ -102,7 +103,8 @@ fn read_current(
     command: &Command,
 ) -> Response
     requires { All IsFittingChange changes.now }
-    ensures { (card.now, result) ≡ table.read_current changes.now card.now channel.now part command.now }
+    ensures { (card.now, result)
+        ≡ table.read_current changes.now card.now channel.now part command.now }
 {
     let Some(file) = current_file(card, channel) else {
         return refused(0x6986);
@@ -122,7 +124,8 @@ pub fn read_binary_row(
     command: &Command,
 ) -> Response
     requires { All IsFittingChange changes.now }
-    ensures { (card.now, result) ≡ table.read_binary_row changes.now card.now channel.now command.now }
+    ensures { (card.now, result)
+        ≡ table.read_binary_row changes.now card.now channel.now command.now }
 {
     read_current(changes, card, channel, Part::Binary, command)
 }
@@ -136,7 +139,8 @@ pub fn read_record_row(
     command: &Command,
 ) -> Response
     requires { All IsFittingChange changes.now }
-    ensures { (card.now, result) ≡ table.read_record_row changes.now card.now channel.now command.now }
+    ensures { (card.now, result)
+        ≡ table.read_record_row changes.now card.now channel.now command.now }
 {
     read_current(changes, card, channel, Part::Record, command)
 }

@@ -56,7 +56,8 @@ fn parameters_answer(
     requires changes { All IsFittingChange changes.now }
     requires card { IsFittingCard card.old }
     ensures fits { IsFittingCard card.new }
-    ensures value { (card.new, result) ≡ table.parameters_answer changes.now card.old number bytes.items }
+    ensures value { (card.new, result)
+        ≡ table.parameters_answer changes.now card.old number bytes.items }
 {
     if card.get_response {
         let word = 0x6100 + (bytes.len() % 256) as u16;
@@ -82,7 +83,8 @@ fn selection_answer(
     requires card { IsFittingCard card.old }
     requires place { place < length card.old.channels }
     ensures fits { IsFittingCard card.new }
-    ensures value { (card.new, result) ≡ table.selection_answer changes.now card.old place channel command.now }
+    ensures value { (card.new, result)
+        ≡ table.selection_answer changes.now card.old place channel command.now }
 {
     if command.p2 == 0x0C {
         card.channels.set(place, channel);
@@ -120,7 +122,8 @@ fn select_application(
     requires card { IsFittingCard card.old }
     requires place { place < length card.old.channels }
     ensures fits { IsFittingCard card.new }
-    ensures value { (card.new, result) ≡ table.select_application changes.now card.old place channel.now command.now }
+    ensures value { (card.new, result)
+        ≡ table.select_application changes.now card.old place channel.now command.now }
 {
     let Some(app) = application_named(command.body.as_slice(), card) else {
         return refused(0x6A82);
@@ -145,7 +148,8 @@ fn select_ids(
     requires card { IsFittingCard card.old }
     requires place { place < length card.old.channels }
     ensures fits { IsFittingCard card.new }
-    ensures value { (card.new, result) ≡ table.select_ids changes.now card.old place channel.now command.now ids.now }
+    ensures value { (card.new, result)
+        ≡ table.select_ids changes.now card.old place channel.now command.now ids.now }
 {
     if !is_selectable(card, channel, ids) {
         return refused(0x6A82);
@@ -171,7 +175,8 @@ pub fn select_row(
     requires card { IsFittingCard card.old }
     requires place { place < length card.old.channels }
     ensures fits { IsFittingCard card.new }
-    ensures value { (card.new, result) ≡ table.select_row changes.now card.old place channel.now command.now }
+    ensures value { (card.new, result)
+        ≡ table.select_row changes.now card.old place channel.now command.now }
 {
     if !is_one_of(command.p1 as usize, &[0x00, 0x04, 0x08])
         || !is_one_of(command.p2 as usize, &[0x04, 0x0C])

@@ -44,7 +44,8 @@ pub fn terminal_response_row(changes: &Changes, card: &mut CardState, command: &
     requires changes { All IsFittingChange changes.now }
     requires card { IsFittingCard card.old }
     ensures fits { IsFittingCard card.new }
-    ensures value { (card.new, result) ≡ table.terminal_response_row changes.now card.old command.now }
+    ensures value { (card.new, result)
+        ≡ table.terminal_response_row changes.now card.old command.now }
 {
     if parameters(command) != 0 {
         return refused(0x6A86);

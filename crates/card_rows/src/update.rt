@@ -22,7 +22,8 @@ fn write_bytes(file: &mut FileState, at: usize, body: &[u8])
     requires within { at + length body.now ≤ length (row_of_bytes file.old.rows.rows) }
     requires fits { HasFittingParameters file.old }
     ensures fits { HasFittingParameters file.new }
-    ensures value { file.new ≡ table.with_record file.old 0 (written_at at body.now (row_of_bytes file.old.rows.rows)) }
+    ensures value { file.new ≡ table.with_record file.old 0 (written_at at body.now
+        (row_of_bytes file.old.rows.rows)) }
 {
     // the count's contract tells that the content has the form of its kind: one row, as wide as the file
     let _count = file.rows.count();
@@ -130,7 +131,9 @@ fn update_found(
     requires card { IsFittingCard card.old }
     requires place { place < length card.old.files }
     ensures fits { IsFittingCard card.new }
-    ensures value { (card.new, result) ≡ table.update_found changes.now card.old part command.now place (slice_get card.old.files place) }
+    ensures value { (card.new, result)
+        ≡ table.update_found changes.now card.old part command.now place
+        (slice_get card.old.files place) }
 {
     if let Some(word) = refusal_at(card, part, place, command) {
         return refused(word);
@@ -150,7 +153,8 @@ fn update_current(
     requires changes { All IsFittingChange changes.now }
     requires card { IsFittingCard card.old }
     ensures fits { IsFittingCard card.new }
-    ensures value { (card.new, result) ≡ table.update_current changes.now card.old channel.now part command.now }
+    ensures value { (card.new, result)
+        ≡ table.update_current changes.now card.old channel.now part command.now }
 {
     let Some(place) = current_place(card, channel) else {
         return refused(0x6986);
@@ -169,7 +173,8 @@ pub fn update_binary_row(
     requires changes { All IsFittingChange changes.now }
     requires card { IsFittingCard card.old }
     ensures fits { IsFittingCard card.new }
-    ensures value { (card.new, result) ≡ table.update_binary_row changes.now card.old channel.now command.now }
+    ensures value { (card.new, result)
+        ≡ table.update_binary_row changes.now card.old channel.now command.now }
 {
     update_current(changes, card, channel, Part::Binary, command)
 }
@@ -185,7 +190,8 @@ pub fn update_record_row(
     requires changes { All IsFittingChange changes.now }
     requires card { IsFittingCard card.old }
     ensures fits { IsFittingCard card.new }
-    ensures value { (card.new, result) ≡ table.update_record_row changes.now card.old channel.now command.now }
+    ensures value { (card.new, result)
+        ≡ table.update_record_row changes.now card.old channel.now command.now }
 {
     update_current(changes, card, channel, Part::Record, command)
 }

@@ -20,7 +20,8 @@ fn verify_found(
     requires card { IsFittingCard card.old }
     requires place { place < length card.old.keys }
     ensures fits { IsFittingCard card.new }
-    ensures value { (card.new, result) ≡ table.verify_found changes.now card.old command.now place (Some key) }
+    ensures value { (card.new, result)
+        ≡ table.verify_found changes.now card.old command.now place (Some key) }
 {
     if command.body.len() != 8 {
         return refused(0x6700);
@@ -52,7 +53,9 @@ fn verify_at(changes: &Changes, card: &mut CardState, place: usize, command: &Co
     requires card { IsFittingCard card.old }
     requires place { place < length card.old.keys }
     ensures fits { IsFittingCard card.new }
-    ensures value { (card.new, result) ≡ table.verify_found changes.now card.old command.now place (slice_get card.old.keys place) }
+    ensures value { (card.new, result)
+        ≡ table.verify_found changes.now card.old command.now place
+        (slice_get card.old.keys place) }
 {
     let key = match card.keys.get(place) {
         Some(key) => *key,

@@ -13,6 +13,3 @@ pub use reader::read_fcp;
 pub use rows::{FileKind, FileView, Rows};
 pub use rule::{Need, Rule, read_rule};
 pub use writer::write_fcp;
-
-#[cfg(test)]
-mod tests;

@@ -29,7 +29,8 @@ impl<'a> FoundObjects<'a> {
     /// The objects of a template, which is read to its end.
     pub fn of(template: &'a [u8]) -> Result<FoundObjects<'a>, TlvError>
         ensures whole { OnOk result ((ber_parts template.now).damage ≡ None) }
-        ensures value { IfOk result (λ objects. objects ≡ objects_of (ber_parts template.now).parts) }
+        ensures value { IfOk result (λ objects. objects
+            ≡ objects_of (ber_parts template.now).parts) }
         ensures damage { IfErr result (λ error. (ber_parts template.now).damage ≡ Some error) }
     {
         Ok(FoundObjects {

@@ -148,7 +148,8 @@ impl Rows {
         requires linear { IsTrue (is_linear self.old.kind) }
         requires room { length self.old.rows < 255 }
         requires width { length row.now ≡ self.old.width }
-        ensures ok { OnOk result (self.new ≡ linear self.old.width (self.old.rows ++ row.now ∷ [])) }
+        ensures ok { OnOk result (self.new
+            ≡ linear self.old.width (self.old.rows ++ row.now ∷ [])) }
         ensures err { OnErr result (self.new ≡ self.old) }
     {
         self.bytes.extend_from_slice(row)?;
@@ -171,7 +172,8 @@ impl Rows {
     pub fn write_at(&mut self, i: usize, at: usize, bytes: &[u8])
         requires within { i < length self.old.rows }
         requires inside { at + length bytes.now ≤ self.old.width }
-        ensures { IfSome (slice_get self.old.rows i) (λ row. self.new ≡ with_row i (written_at at bytes.now row) self.old) }
+        ensures { IfSome (slice_get self.old.rows i)
+            (λ row. self.new ≡ with_row i (written_at at bytes.now row) self.old) }
     {
         self.bytes.write_at(i * self.row_width as usize + at, bytes);
     }

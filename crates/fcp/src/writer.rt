@@ -49,7 +49,8 @@ fn put_object<const N: usize>(out: &mut ArrayVec<u8, N>, tag: u8, value: &[u8])
 
 fn put_descriptor(out: &mut ArrayVec<u8, 62>, kind: FileKind, width: u16, count: u8)
     requires { length out.old.items + 7 ≤ 62 }
-    ensures value { out.new.items ≡ out.old.items ++ part_bytes 0x82 (descriptor_bytes kind width count) }
+    ensures value { out.new.items
+        ≡ out.old.items ++ part_bytes 0x82 (descriptor_bytes kind width count) }
     ensures len { length out.new.items ≤ length out.old.items + 7 }
 {
     match kind {

@@ -12,6 +12,3 @@ pub use write::{write_proactive, write_refresh, write_terminal_response};
 
 // The file id of the master file, TS 102 221 clause 8.3.
 const MASTER_FILE: u16 = 0x3F00;
-
-#[cfg(test)]
-mod tests;

@@ -39,10 +39,12 @@ fn read_paths(bytes: &[u8]) -> Option<ArrayVec<Path, 64>>
 // The path at the front, which ends before the next master file or at the end.
 fn read_path<'a>(bytes: &'a [u8]) -> Option<(Path, &'a [u8])>
     requires { 0 < length bytes.now }
-    ensures some { IfSome result (λ r. (paths : List (List ℕ)) → onto paths (cut_bytes bytes.now) ≡ onto (paths ++ r.0 ∷ []) (cut_bytes r.1.now)) }
+    ensures some { IfSome result (λ r. (paths : List (List ℕ))
+        → onto paths (cut_bytes bytes.now) ≡ onto (paths ++ r.0 ∷ []) (cut_bytes r.1.now)) }
     ensures shorter { IfSome result (λ r. length r.1.now < length bytes.now) }
     ensures good { IfSome result (λ r. spec.is_good_path r.0 ≡ true) }
-    ensures none { IfNone result ((paths : List (List ℕ)) → onto paths (cut_bytes bytes.now) ≡ None) }
+    ensures none { IfNone result ((paths : List (List ℕ))
+        → onto paths (cut_bytes bytes.now) ≡ None) }
 {
     let (first, mut rest) = split_id(bytes)?;
     if first != MASTER_FILE {

@@ -55,7 +55,9 @@ fn from_values(
     identities: Option<&[u8]>,
     list: Option<&[u8]>,
 ) -> Result<Proactive, ProactiveError>
-    ensures { result ≡ spec.proactive_from (option_copied details.entry) (option_copied identities.entry) (spec.listed_paths (option_copied list.entry)) }
+    ensures { result
+        ≡ spec.proactive_from (option_copied details.entry) (option_copied identities.entry)
+        (spec.listed_paths (option_copied list.entry)) }
 {
     let Some([number, kind, qualifier]) = details else {
         return Err(ProactiveError::Missing(0x01));
@@ -72,7 +74,8 @@ fn with_list(
     qualifier: u8,
     list: Option<&[u8]>,
 ) -> Result<Proactive, ProactiveError>
-    ensures { result ≡ spec.with_list number kind qualifier (spec.listed_paths (option_copied list.entry)) }
+    ensures { result
+        ≡ spec.with_list number kind qualifier (spec.listed_paths (option_copied list.entry)) }
 {
     let list = listed_paths(list).ok_or(ProactiveError::BadList)?;
     Ok(Proactive {
@@ -84,7 +87,8 @@ fn with_list(
 }
 
 fn listed_paths(list: Option<&[u8]>) -> Option<ArrayVec<Path, 64>>
-    ensures { option_map (λ paths. paths.items) result ≡ spec.listed_paths (option_copied list.entry) }
+    ensures { option_map (λ paths. paths.items) result
+        ≡ spec.listed_paths (option_copied list.entry) }
 {
     match list {
         None => Some(ArrayVec::new_in(())),

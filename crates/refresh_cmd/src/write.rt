@@ -13,7 +13,8 @@ use arrayvec::ArrayVec;
 pub fn write_refresh(p: &Proactive) -> ArrayVec<u8, 128>
     requires { length p.now.list ≤ 8 }
     ensures value { result.items ≡ spec.write_refresh p.now }
-    ensures read_back { list_all spec.is_below_master p.now.list ≡ true → spec.read_proactive result.items ≡ Ok p.now }
+    ensures read_back { list_all spec.is_below_master p.now.list ≡ true
+        → spec.read_proactive result.items ≡ Ok p.now }
 {
     write_proactive(p.number, p.kind, p.qualifier, p.list.as_slice())
 }
@@ -22,7 +23,8 @@ pub fn write_refresh(p: &Proactive) -> ArrayVec<u8, 128>
 pub fn write_proactive(number: u8, kind: u8, qualifier: u8, paths: &[Path]) -> ArrayVec<u8, 128>
     requires { length paths.now ≤ 8 }
     ensures value { result.items ≡ spec.proactive_bytes number kind qualifier paths.now }
-    ensures read_back { list_all spec.is_below_master paths.now ≡ true → spec.read_proactive result.items ≡ Ok (spec.command_of number kind qualifier paths.now) }
+    ensures read_back { list_all spec.is_below_master paths.now ≡ true
+        → spec.read_proactive result.items ≡ Ok (spec.command_of number kind qualifier paths.now) }
 {
     let list = list_object(paths);
     with_details(number, kind, qualifier, list.as_slice())
@@ -35,7 +37,8 @@ pub fn write_terminal_response(
     qualifier: u8,
     general_result: u8,
 ) -> ArrayVec<u8, 12>
-    ensures value { result.items ≡ spec.write_terminal_response number kind qualifier general_result }
+    ensures value { result.items
+        ≡ spec.write_terminal_response number kind qualifier general_result }
 {
     ArrayVec::from([
         0x81,

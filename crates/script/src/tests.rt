@@ -1,4 +1,4 @@
-// A script is read, its lists are made, and it is written in one spelling.
+// A script is read and written in one spelling.
 use crate::{read_script, write_script};
 use std::alloc::Global;
 use std::process::Abort;
@@ -28,14 +28,4 @@ fn scripts_are_written_in_one_spelling(rt: HostRuntime) -> Result<(), Fail> {
             "actors": [[]] } "#,
         r#"{"actors":[[]],"cards":[{"files":[{"data":"0A","kind":"transparent","path":"2FE2"}]}],"changes":[{"qualifier":0}],"version":1}"#,
     )
-}
-
-#[test]
-fn lists_of_a_script_are_made(rt: HostRuntime) -> Result<(), Fail> {
-    let script = read_script(rt.alloc(), WHOLE.as_bytes()).map_err(|_| "refused")?;
-    let images = script.images(rt.alloc())?;
-    let changes = script.changes(rt.alloc())?;
-    let faults = script.faults(rt.alloc())?;
-    assert_eq!(&rt; (images.len(), changes.len(), faults.len()), (2, 2, 2));
-    Ok(())
 }

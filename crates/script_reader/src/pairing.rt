@@ -42,7 +42,8 @@ fn ends_session(op: &Operation, key: u8) -> bool
 
 /// How often the channel is closed before it is opened again.
 fn closings(handle: u8, later: &[Operation]) -> usize
-    ensures value { result ≡ spec.ends_before_next (spec.opens handle) (spec.closes handle) later.now }
+    ensures value { result
+        ≡ spec.ends_before_next (spec.opens handle) (spec.closes handle) later.now }
     ensures few { result ≤ length later.now }
 {
     let [op, later @ ..] = later else {
@@ -56,7 +57,8 @@ fn closings(handle: u8, later: &[Operation]) -> usize
 
 /// How often the session is ended before its key is verified again.
 fn endings(key: u8, later: &[Operation]) -> usize
-    ensures value { result ≡ spec.ends_before_next (spec.verifies key) (spec.ends_session key) later.now }
+    ensures value { result
+        ≡ spec.ends_before_next (spec.verifies key) (spec.ends_session key) later.now }
     ensures few { result ≤ length later.now }
 {
     let [op, later @ ..] = later else {

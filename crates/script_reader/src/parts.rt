@@ -64,7 +64,8 @@ fn items<T: Item + Drop>(
     earlier: Earlier,
     values: &[Value],
 ) -> Result<Sequence<T>, ScriptError>
-    ensures value { AnswersAs (spec.items_from (T.reading earlier) part [] (map view values.now)) result }
+    ensures value { AnswersAs
+        (spec.items_from (T.reading earlier) part [] (map view values.now)) result }
     ensures few { IfOk result (λ xs. length xs ≤ T.room) }
 {
     let mut out = Sequence::new(alloc);
@@ -84,7 +85,8 @@ fn some_items<T: Item + Drop>(
     earlier: Earlier,
     values: &[Value],
 ) -> Result<Sequence<T>, ScriptError>
-    ensures value { AnswersAs (spec.some_items (T.reading earlier) part (map view values.now)) result }
+    ensures value { AnswersAs
+        (spec.some_items (T.reading earlier) part (map view values.now)) result }
     ensures few { IfOk result (λ xs. length xs ≤ T.room) }
 {
     match values {
@@ -106,7 +108,8 @@ pub(crate) fn required_part<T: Item + Drop>(
     earlier: Earlier,
     script: &Value,
 ) -> Result<Sequence<T>, ScriptError>
-    ensures value { AnswersAs (spec.required_part (T.reading earlier) part name.now (view script.now)) result }
+    ensures value { AnswersAs
+        (spec.required_part (T.reading earlier) part name.now (view script.now)) result }
     ensures few { IfOk result (λ xs. length xs ≤ T.room) }
 {
     match script.get(name).and_then(Value::as_array) {
@@ -128,7 +131,8 @@ pub(crate) fn optional_part<T: Item + Drop>(
     earlier: Earlier,
     script: &Value,
 ) -> Result<Sequence<T>, ScriptError>
-    ensures value { AnswersAs (spec.optional_part (T.reading earlier) part name.now (view script.now)) result }
+    ensures value { AnswersAs
+        (spec.optional_part (T.reading earlier) part name.now (view script.now)) result }
     ensures few { IfOk result (λ xs. length xs ≤ T.room) }
 {
     let Some(found) = script.get(name) else {

@@ -215,7 +215,8 @@ impl Fields {
     }
 
     pub(crate) fn put<T: ToJson>(&mut self, name: &str, value: &T) -> Result<(), Memory>
-        ensures fields { OnOk result (members self.new ≡ put name.now (T.written value.now) (members self.old)) }
+        ensures fields { OnOk result (members self.new
+            ≡ put name.now (T.written value.now) (members self.old)) }
         ensures back { OnOk result (T.is_back value.now) }
     {
         let value = value.to_json(self.alloc)?;
@@ -223,14 +224,16 @@ impl Fields {
     }
 
     pub(crate) fn put_text(&mut self, name: &str, text: &str) -> Result<(), Memory>
-        ensures { OnOk result (members self.new ≡ put name.now (string text.now) (members self.old)) }
+        ensures { OnOk result (members self.new
+            ≡ put name.now (string text.now) (members self.old)) }
     {
         let value = text_value(self.alloc, text)?;
         self.put_value(name, value)
     }
 
     pub(crate) fn put_hex(&mut self, name: &str, bytes: &[u8]) -> Result<(), Memory>
-        ensures fields { OnOk result (members self.new ≡ put name.now (spec.hex_data bytes.now) (members self.old)) }
+        ensures fields { OnOk result (members self.new
+            ≡ put name.now (spec.hex_data bytes.now) (members self.old)) }
         ensures bytes { IsBytes bytes.now }
     {
         let value = hex_value(self.alloc, bytes)?;
@@ -243,7 +246,8 @@ impl Fields {
         name: &str,
         value: &Option<T>,
     ) -> Result<(), Memory>
-        ensures fields { OnOk result (members self.new ≡ spec.with_some name.now (option_map T.written value.now) (members self.old)) }
+        ensures fields { OnOk result (members self.new
+            ≡ spec.with_some name.now (option_map T.written value.now) (members self.old)) }
         ensures back { OnOk result (IfSome value.now T.is_back) }
     {
         match value {
@@ -259,7 +263,8 @@ impl Fields {
         name: &str,
         value: &T,
     ) -> Result<(), Memory>
-        ensures fields { OnOk result (members self.new ≡ spec.unless is_default name.now (T.written value.now) (members self.old)) }
+        ensures fields { OnOk result (members self.new
+            ≡ spec.unless is_default name.now (T.written value.now) (members self.old)) }
         ensures back { is_default ≡ false → OnOk result (T.is_back value.now) }
     {
         if is_default {
@@ -274,7 +279,8 @@ impl Fields {
         name: &str,
         list: &Sequence<T>,
     ) -> Result<(), Memory>
-        ensures fields { OnOk result (members self.new ≡ spec.with_list name.now T.written list.now (members self.old)) }
+        ensures fields { OnOk result (members self.new
+            ≡ spec.with_list name.now T.written list.now (members self.old)) }
         ensures back { OnOk result (All T.is_back list.now) }
     {
         if list.is_empty() {

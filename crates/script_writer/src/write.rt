@@ -19,7 +19,8 @@ use std::alloc::Global;
 #[tactic(auto, using(crate::proofs::Floats::script_whole))]
 pub fn write_script(alloc: Global, script: &Script) -> Result<Text, Memory>
     ensures text { IfOk result (λ text. text ≡ spec.script_text script.now) }
-    ensures read_back { IfOk result (λ text. keeps_rules script.now ≡ true → script_of_bytes text ≡ Ok script.now) }
+    ensures read_back { IfOk result (λ text. keeps_rules script.now ≡ true
+        → script_of_bytes text ≡ Ok script.now) }
 {
     let value = script.to_json(alloc)?;
     Ok(Text::from_string(value.to_string(alloc)?))
@@ -117,7 +118,8 @@ fn file_fields(alloc: Global, file: &FileSpec) -> Result<Fields, Memory>
 
 /// Puts what a file holds.
 fn put_kind(kind: &KindSpec, fields: &mut Fields) -> Result<(), Memory>
-    ensures value { OnOk result (members fields.new ≡ spec.with_kind kind.now (members fields.old)) }
+    ensures value { OnOk result (members fields.new
+        ≡ spec.with_kind kind.now (members fields.old)) }
     ensures back { OnOk result (IsKindBack kind.now) }
 {
     match kind {
@@ -220,7 +222,8 @@ fn operation_name(operation: &Operation) -> &'static str
 
 /// Puts the fields of an operation's own.
 fn put_own(operation: &Operation, fields: &mut Fields) -> Result<(), Memory>
-    ensures value { OnOk result (members fields.new ≡ spec.with_operation operation.now (members fields.old)) }
+    ensures value { OnOk result (members fields.new
+        ≡ spec.with_operation operation.now (members fields.old)) }
     ensures back { OnOk result (AreOwnBack operation.now) }
 {
     match operation {

@@ -11,7 +11,8 @@ use card_model::{CardState, World, WorldEvent, WorldRefusal};
 fn arm_card(card: &mut CardState, change: u8) -> Result<(), WorldRefusal>
     requires { IsFittingCard card.old }
     ensures fits { IsFittingCard card.new }
-    ensures refused { slots.IsResultOf (slots.arm_refusal true (slots.armed_count (Some card.old)) change) result }
+    ensures refused { slots.IsResultOf (slots.arm_refusal true
+        (slots.armed_count (Some card.old)) change) result }
     ensures ok { OnOk result (card.new ≡ table.armed_card change card.old) }
     ensures err { OnErr result (card.new ≡ card.old) }
 {

@@ -11,6 +11,3 @@ mod step;
 pub use calls::{Call, play};
 pub use card_rows::{refusal_keeps, reset_keeps, success_announces, tries_keep};
 pub use slot::SimSlot;
-
-#[cfg(test)]
-mod tests;

@@ -140,10 +140,13 @@ impl Slot for SimSlot {
     ghost faults = { λ s. s.failures };
 
     fn exchange(&mut self, command: &Command) -> Result<Response, SlotFault>
-        ensures ok { IfOk result (slots.Answers (Some self.old.world) (Some self.new.world) command.now) }
-        ensures err { OnErr result (slots.MayHaveActed (Some self.old.world) (Some self.new.world) command.now) }
+        ensures ok { IfOk result (slots.Answers (Some self.old.world)
+            (Some self.new.world) command.now) }
+        ensures err { OnErr result (slots.MayHaveActed (Some self.old.world)
+            (Some self.new.world) command.now) }
         ensures counts { slots.Counts (Some self.old.plan) (Some self.new.plan) }
-        ensures planned { slots.ExchangesAsPlanned (Some self.old.plan) (Some self.old.world) (Some self.new.world) command.now result }
+        ensures planned { slots.ExchangesAsPlanned (Some self.old.plan) (Some self.old.world)
+            (Some self.new.world) command.now result }
         ensures cause { HasCause self.old.failures self.new.failures result }
         ensures failures { self.new.failures ≡ failures_after self.old.failures result }
     {
@@ -159,9 +162,11 @@ impl Slot for SimSlot {
     #[tactic(auto, using(crate::proofs::Worlds::stocked_reset))]
     fn reset(&mut self) -> Result<(), SlotFault>
         ensures ok { OnOk result (slots.Resets (Some self.old.world) (Some self.new.world)) }
-        ensures err { OnErr result (slots.MayHaveReset (Some self.old.world) (Some self.new.world)) }
+        ensures err { OnErr result (slots.MayHaveReset (Some self.old.world)
+            (Some self.new.world)) }
         ensures counts { slots.Counts (Some self.old.plan) (Some self.new.plan) }
-        ensures planned { slots.ResetsAsPlanned (Some self.old.plan) (Some self.old.world) (Some self.new.world) result }
+        ensures planned { slots.ResetsAsPlanned (Some self.old.plan) (Some self.old.world)
+            (Some self.new.world) result }
         ensures cause { HasCause self.old.failures self.new.failures result }
         ensures failures { self.new.failures ≡ failures_after self.old.failures result }
     {

@@ -87,7 +87,8 @@ fn first_spare(spares: &FileList, new: &FileState) -> Option<usize>
 fn spare_place(spares: &FileList, new: &FileState) -> usize
     requires { list_any (stock.fits new.now) spares.now ≡ true }
     ensures within { result < length spares.now }
-    ensures shape { IfSome (slice_get spares.now result) (λ spare. stock.fits new.now spare ≡ true) }
+    ensures shape { IfSome (slice_get spares.now result)
+        (λ spare. stock.fits new.now spare ≡ true) }
 {
     match first_spare(spares, new) {
         Some(place) => place,
@@ -101,7 +102,8 @@ fn make_fit(files: &mut CardFiles, place: usize, spares: &mut FileList, new: &Fi
     requires ready { IsReadyFor files.old spares.old new.now }
     ensures within { place < length files.new }
     ensures shape { IfSome (slice_get files.new place) (λ file. stock.fits new.now file ≡ true) }
-    ensures others { IfSome (slice_get files.new place) (λ file. files.new ≡ slice_set files.old place file) }
+    ensures others { IfSome (slice_get files.new place)
+        (λ file. files.new ≡ slice_set files.old place file) }
     ensures count { length spares.new ≡ length spares.old }
     ensures ready { StaysReady files.old spares.old files.new spares.new }
 {

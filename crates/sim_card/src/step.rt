@@ -38,7 +38,8 @@ fn step_of_card(world: &mut World, spares: &mut Spares, place: u8, command: &Com
     requires stocked { IsStockedWorld world.old spares.old }
     ensures fits { IsFittingWorld world.new }
     ensures stocked { IsStockedWorld world.new spares.new }
-    ensures value { (world.new, result) ≡ table.step_of_card world.old place (slice_get world.old.cards place) command.now }
+    ensures value { (world.new, result)
+        ≡ table.step_of_card world.old place (slice_get world.old.cards place) command.now }
 {
     if place as usize >= world.cards.len() {
         return nothing();

@@ -31,7 +31,8 @@ fn iccid_digits(alloc: Global, bytes: &[u8]) -> Result<Text, FieldError>
 /// Puts the digits at the end of the text, or answers the index of the first byte that has none.
 fn put_iccid(out: &mut String, bytes: &[u8], at: usize) -> Result<Option<usize>, Memory>
     requires { at + length bytes.now < 2 ^ 64 }
-    ensures { IfOk result (λ place. ends_at place (string_bytes out.new) ≡ onto (string_bytes out.old) (iccid_from at bytes.now)) }
+    ensures { IfOk result (λ place. ends_at place (string_bytes out.new)
+        ≡ onto (string_bytes out.old) (iccid_from at bytes.now)) }
 {
     let [byte, rest @ ..] = bytes else {
         return Ok(None);
@@ -97,7 +98,8 @@ fn put_imsi(
     at: usize,
 ) -> Result<Option<usize>, Memory>
     requires { at + length rest.now < 2 ^ 64 }
-    ensures { IfOk result (λ place. ends_at place (string_bytes out.new) ≡ onto (string_bytes out.old) (imsi_from even at byte rest.now)) }
+    ensures { IfOk result (λ place. ends_at place (string_bytes out.new)
+        ≡ onto (string_bytes out.old) (imsi_from even at byte rest.now)) }
 {
     let high = byte / 16;
     let [next, rest @ ..] = rest else {
@@ -118,7 +120,8 @@ fn put_imsi(
 /// The last half, which is a digit or, behind an even count of digits, F.
 fn put_last(out: &mut String, even: bool, half: u8, at: usize) -> Result<Option<usize>, Memory>
     requires { half < 16 }
-    ensures { IfOk result (λ place. ends_at place (string_bytes out.new) ≡ onto (string_bytes out.old) (last_half even half at)) }
+    ensures { IfOk result (λ place. ends_at place (string_bytes out.new)
+        ≡ onto (string_bytes out.old) (last_half even half at)) }
 {
     if even {
         return Ok((half != 15).then_some(at));

@@ -15,6 +15,3 @@ pub use digits::{iccid, imsi};
 pub use error::FieldError;
 pub use names::spn;
 pub use values::{Ad, AppRow, Spn};
-
-#[cfg(test)]
-mod tests;

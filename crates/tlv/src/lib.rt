@@ -9,6 +9,3 @@ mod writer;
 pub use error::TlvError;
 pub use reader::{BerReader, SimpleReader};
 pub use writer::put_tlv;
-
-#[cfg(test)]
-mod tests;

@@ -66,7 +66,8 @@ impl<'a> Cursor<'a> {
 
     fn first_value(mut self, tag: u8) -> Result<Option<&'a [u8]>, TlvError>
         ensures whole { OnOk result (self.entry.damage ≡ None) }
-        ensures value { IfOk result (λ value. option_copied value ≡ value_of_tag tag self.entry.parts) }
+        ensures value { IfOk result (λ value. option_copied value
+            ≡ value_of_tag tag self.entry.parts) }
         ensures damage { IfErr result (λ error. self.entry.damage ≡ Some error) }
     {
         let mut first = None;
@@ -113,7 +114,8 @@ impl<'a> BerReader<'a> {
     /// The value of the first object of this tag. All objects that are left are read, and damage among them comes first.
     pub fn first_value(self, tag: u8) -> Result<Option<&'a [u8]>, TlvError>
         ensures whole { OnOk result (self.entry.damage ≡ None) }
-        ensures value { IfOk result (λ value. option_copied value ≡ value_of_tag tag self.entry.parts) }
+        ensures value { IfOk result (λ value. option_copied value
+            ≡ value_of_tag tag self.entry.parts) }
         ensures damage { IfErr result (λ error. self.entry.damage ≡ Some error) }
     {
         self.cursor.first_value(tag)
@@ -154,7 +156,8 @@ impl<'a> SimpleReader<'a> {
     /// The value of the first object of this tag. All objects that are left are read, and damage among them comes first.
     pub fn first_value(self, tag: u8) -> Result<Option<&'a [u8]>, TlvError>
         ensures whole { OnOk result (self.entry.damage ≡ None) }
-        ensures value { IfOk result (λ value. option_copied value ≡ value_of_tag tag self.entry.parts) }
+        ensures value { IfOk result (λ value. option_copied value
+            ≡ value_of_tag tag self.entry.parts) }
         ensures damage { IfErr result (λ error. self.entry.damage ≡ Some error) }
     {
         self.cursor.first_value(tag)

@@ -5,8 +5,6 @@ mod first;
 mod law;
 mod report;
 mod run;
-#[cfg(test)]
-mod tests;
 mod text;
 mod top;
 

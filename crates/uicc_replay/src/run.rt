@@ -53,7 +53,8 @@ struct Run {
 fn command_of(class: u8, ins: u8, p1: u8, p2: u8, bytes: &[u8], le: Option<u16>) -> Command
     requires le { HasLe le }
     requires short { length bytes.now ≤ 255 }
-    ensures { result ≡ record { class = class; ins = ins; p1 = p1; p2 = p2; body = bytes.now; le = le } }
+    ensures { result
+        ≡ record { class = class; ins = ins; p1 = p1; p2 = p2; body = bytes.now; le = le } }
 {
     let mut body = ArrayVec::new();
     let _ = body.try_extend_from_slice(bytes);

@@ -177,7 +177,8 @@ pub fn top<S: Source, K: Sink>(
     ensures refused { result.status ≡ 3 → IsRefused streams.old streams.new }
     ensures read { result.status ≡ 4 → Rose streams.old.source.faults streams.new.source.faults }
     ensures write { result.status ≡ 5 → Rose streams.old.sink.faults streams.new.sink.faults }
-    ensures too_long { result.status ≡ 8 → HasMore script_limit streams.old.source streams.new.source }
+    ensures too_long { result.status ≡ 8
+        → HasMore script_limit streams.old.source streams.new.source }
     ensures known { IsTrue (is_status result.status) }
 
     // Words that are no command end in one of two ways, and read nothing.
