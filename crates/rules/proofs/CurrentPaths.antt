@@ -8,13 +8,14 @@ use Rattle.fcp.specs.Content.{with_row}
 use Rattle.script_reader.specs.declared.types.Script.{Script}
 use Rattle.report.specs.declared.line.Line.{Line}
 use Rattle.report.specs.declared.line.Line.TheVariants as line
-use Rattle.rules.specs.declared.files.CachedFile.{CachedFile}
-use Rattle.rules.specs.declared.files.Touch.{Touch}
-use Rattle.rules.specs.declared.files.Written.{Written}
-use Rattle.rules.specs.declared.files.Written.TheVariants as written
+use Rattle.epoch_cache.specs.declared.cached.CachedFile.{CachedFile}
+use Rattle.epoch_cache.specs.declared.cached.Touch.{Touch}
+use Rattle.epoch_cache.specs.declared.cached.Written.{Written}
+use Rattle.epoch_cache.specs.declared.cached.Written.TheVariants as written
 use Rattle.rules.specs.declared.kept.Kept.{Kept}
 use Rattle.rules.specs.History.{stops_epoch}
-use Rattle.rules.specs.Cache.{is_of, is_current, is_row_of, is_moved, is_unknown_write, forgotten, with_file, with_completed, patched_file, patched, written_files, files_exchanged, files_behind}
+use Rattle.epoch_cache.specs.Cache.{is_of, is_current, is_row_of, is_moved, is_unknown_write, forgotten, with_file, with_completed, patched_file, patched, written_files, files_exchanged}
+use Rattle.rules.specs.Cache.{files_behind}
 use Rattle.rules.specs.After.{facts_of, kept_of}
 use Rattle.rules.specs.LookingBack.{completed_in, was_completed}
 

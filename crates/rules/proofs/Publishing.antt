@@ -9,8 +9,8 @@ use Rattle.apdu.specs.Words.{is_one_of}
 use Rattle.serde_json.specs.Written.{compact_text}
 use Rattle.card_model.specs.declared.world.World.{World}
 use Rattle.families.specs.Families.{View, all_families, iccid_path, imsi_path, ad_path, spn_path, msisdn_path, ext5_path, dir_path, adn_path, ext1_path, fdn_path, ext2_path, family_paths, records_data, book_data, shown}
-use Rattle.rules.specs.declared.files.CachedFile.{CachedFile}
-use Rattle.rules.specs.Cache.{taken, is_current, all_current, content_or_missing, view_of_files}
+use Rattle.epoch_cache.specs.declared.cached.CachedFile.{CachedFile}
+use Rattle.epoch_cache.specs.Cache.{taken, is_current, all_current, content_or_missing, view_of_files}
 use Rattle.rules.specs.declared.kept.Kept.{Kept}
 use Rattle.rules.specs.declared.due.Due.TheVariants.{Publish as publish}
 use Rattle.rules.specs.Due.{due, due_publication, published_by, kept_text}

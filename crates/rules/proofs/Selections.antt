@@ -25,7 +25,7 @@ use Rattle.card_model.specs.Card.{application_id, application_named, has_number,
 use Rattle.card_model.specs.Answers.{refuses, length_byte, announced_word, success_word, with_waiting, wanted_le}
 use Rattle.card_model.specs.Select.{with_channel, select_row, select_ids, select_found, selection_answer, parameters_answer, selected_ids, is_select_length}
 use Rattle.card_model.specs.Channels.{manage_channel_row, open_with_le, open_number, free_number, close_channel, close_place, first_closed, is_open}
-use Rattle.rules.specs.Commands.{is_basic_select, named_path, selection_after}
+use Rattle.link.specs.Commands.{is_basic_select, named_path, selection_after}
 use Rattle.rules.specs.Laws.{basic_in, current_on, basic_path, Follows}
 
 -- ---- the basic channel among the open ones

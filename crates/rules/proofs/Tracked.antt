@@ -13,7 +13,8 @@ use Rattle.script_reader.specs.declared.types.Script.{Script}
 use Rattle.report.specs.declared.line.Mode.{Mode}
 use Rattle.report.specs.declared.line.Line.{Line}
 use Rattle.report.specs.declared.line.Line.TheVariants as line
-use Rattle.rules.specs.Commands.{is_basic_select, named_path, selection_after, selection_behind}
+use Rattle.link.specs.Commands.{is_basic_select, named_path, selection_after}
+use Rattle.rules.specs.Commands.{selection_behind}
 use Rattle.rules.specs.After.{kept_of}
 use Rattle.rules.specs.State.{world_after, world_of, State, state_of}
 use Rattle.rules.specs.Rules.{has_right_response, is_response_right}

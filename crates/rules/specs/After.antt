@@ -12,14 +12,14 @@ use Rattle.report.specs.declared.answer.Answer.{Answer}
 use Rattle.report.specs.declared.line.Line.{Line}
 use Rattle.report.specs.declared.line.Line.TheVariants as line
 use Rattle.families.specs.Families.{has_path}
-use Rattle.rules.specs.Values.{ReadingValue}
-use Rattle.rules.specs.declared.chains.Chain.{Chain}
-use Rattle.rules.specs.declared.chains.Final.{Final}
+use Rattle.loader.specs.Values.{ReadingValue}
+use Rattle.link.specs.declared.chain.Chain.{Chain}
+use Rattle.link.specs.declared.chain.Final.{Final}
 use Rattle.rules.specs.declared.edits.Attempt.{Attempt}
 use Rattle.rules.specs.declared.edits.Editing.{Editing}
-use Rattle.rules.specs.declared.files.CachedFile.{CachedFile}
-use Rattle.rules.specs.declared.files.RefusedReading.{RefusedReading}
-use Rattle.rules.specs.declared.history.History.{History}
+use Rattle.epoch_cache.specs.declared.cached.CachedFile.{CachedFile}
+use Rattle.loader.specs.declared.reading.RefusedReading.{RefusedReading}
+use Rattle.epoch_cache.specs.declared.past.Past.{Past}
 use Rattle.rules.specs.declared.holdings.Handle.{Handle}
 use Rattle.rules.specs.declared.holdings.Mailbox.{Mailbox}
 use Rattle.rules.specs.declared.holdings.Session.{Session}
@@ -37,9 +37,11 @@ use Rattle.rules.specs.declared.kept.Work.{Work}
 use Rattle.rules.specs.declared.kept.Work.TheVariants.{Rests as rests, Sends as sends, Reads as reads, Writes as writes}
 use Rattle.rules.specs.declared.standing.Standing.{Standing}
 use Rattle.rules.specs.History.{counted, stops_epoch, ends_epoch, history_after}
-use Rattle.rules.specs.Commands.{chain_behind, final_of, is_path_select, selection_behind, is_refused}
-use Rattle.rules.specs.Cache.{touch_of, asks_reset, is_update, files_behind}
-use Rattle.rules.specs.Reading.{reading_of, next_read, readings_after, unspoiled, completed_by, refused_by, has_bad_fcp}
+use Rattle.link.specs.Commands.{is_path_select, is_refused}
+use Rattle.rules.specs.Commands.{chain_behind, final_of, selection_behind}
+use Rattle.epoch_cache.specs.Cache.{asks_reset, is_update}
+use Rattle.rules.specs.Cache.{touch_of, files_behind}
+use Rattle.loader.specs.Reading.{reading_of, next_read, readings_after, unspoiled, completed_by, refused_by, has_bad_fcp}
 use Rattle.rules.specs.Refresh.{startup_steps, startup_behind, owed_behind}
 use Rattle.rules.specs.Channels.{held_numbers, handles_after, ended_handles, is_opening, opened_number, select_application, close_command}
 use Rattle.rules.specs.Sessions.{sessions_after}
@@ -146,13 +148,13 @@ abbrev pub jobs_beside : Line → ℕ → Facts → Option (List ℕ) → List J
 jobs_beside l epoch facts selected jobs = map (job_beside l epoch facts selected) jobs
 
 -- an operation that begins
-abbrev pub fresh_begun : ℕ → History → Begun
+abbrev pub fresh_begun : ℕ → Past → Begun
 fresh_begun i h = record { index = i; epoch = if h.living then Some h.epoch else None; ended = None; told = None; verified = false; editing = no_editing }
 
 abbrev pub begun_with : Option Attempt → Begun → Begun
 begun_with attempt b = record b { editing = with_attempt attempt b.editing }
 
-abbrev pub job_begun : ℕ → History → Option Attempt → Job → Job
+abbrev pub job_begun : ℕ → Past → Option Attempt → Job → Job
 job_begun i h attempt job = record job { begun = Some (begun_with attempt (fresh_begun i h)); readings = [] }
 
 -- at a mark of an actor an edit may begin an attempt

@@ -13,9 +13,9 @@ use Rattle.script_reader.specs.declared.types.Operation.{Operation}
 use Rattle.script_reader.specs.declared.types.Operation.TheVariants as operation
 use Rattle.report.specs.declared.answer.Answer.{Answer}
 use Rattle.report.specs.declared.answer.Answer.TheVariants as answer
-use Rattle.rules.specs.declared.history.History.{History}
+use Rattle.epoch_cache.specs.declared.past.Past.{Past}
 use Rattle.rules.specs.History.{is_living}
-use Rattle.rules.specs.declared.chains.Final.{Final}
+use Rattle.link.specs.declared.chain.Final.{Final}
 use Rattle.rules.specs.declared.holdings.Handle.{Handle}
 
 -- ---- handles
@@ -26,11 +26,11 @@ is_handle_of actor handle h = (h.actor == actor) && (h.handle == handle)
 abbrev pub handle_of : ℕ → ℕ → List Handle → Option Handle
 handle_of actor handle handles = find (is_handle_of actor handle) handles
 
-abbrev pub is_living_handle : History → Handle → Bool
+abbrev pub is_living_handle : Past → Handle → Bool
 is_living_handle history h = is_living history h.epoch
 
 -- the numbers of the handles whose epoch lives
-abbrev pub held_numbers : History → List Handle → List ℕ
+abbrev pub held_numbers : Past → List Handle → List ℕ
 held_numbers history handles = map (λ (h : Handle). h.number) (filter (is_living_handle history) handles)
 
 abbrev pub without_handle : ℕ → ℕ → List Handle → List Handle

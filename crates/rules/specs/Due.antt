@@ -20,8 +20,8 @@ use Rattle.report.specs.declared.answer.Answer.TheVariants as answer
 use Rattle.adn.specs.declared.edit.PlanError.{PlanError}
 use Rattle.adn.specs.declared.edit.PlanError.TheVariants as plan_error
 use Rattle.families.specs.Families.{family_paths, family_path, shown}
-use Rattle.rules.specs.Values.{ReadingValue}
-use Rattle.rules.specs.declared.chains.Chain.{Chain}
+use Rattle.loader.specs.Values.{ReadingValue}
+use Rattle.link.specs.declared.chain.Chain.{Chain}
 use Rattle.rules.specs.declared.due.Due.{Due}
 use Rattle.rules.specs.declared.due.Due.TheVariants.{TellEnd as tell_end, Send as send, ResetCard as reset_card, TryEvent as try_event, TellRefusal as tell_refusal, Publish as publish, Give as give, Begin as begin, WaitFor as wait_for, EndOfActor as end_of_actor, Rest as rest}
 use Rattle.rules.specs.declared.edits.Attempt.{Attempt}
@@ -37,9 +37,9 @@ use Rattle.rules.specs.declared.kept.Stage.TheVariants.{Fresh as fresh, Next as 
 use Rattle.rules.specs.declared.kept.Turn.{Turn}
 use Rattle.rules.specs.declared.kept.Work.{Work}
 use Rattle.rules.specs.declared.kept.Work.TheVariants.{Refuses as refuses, Lacks as lacks, Sends as sends, Reads as reads, Writes as writes, Resets as resets, Happens as happens}
-use Rattle.rules.specs.Commands.{is_at, select_for_reading, select_only}
-use Rattle.rules.specs.Cache.{all_current, view_of_files}
-use Rattle.rules.specs.Reading.{reading_of, next_read}
+use Rattle.link.specs.Commands.{is_at, select_for_reading, select_only}
+use Rattle.epoch_cache.specs.Cache.{all_current, view_of_files}
+use Rattle.loader.specs.Reading.{reading_of, next_read}
 use Rattle.rules.specs.Channels.{handle_of, is_raw_ins}
 use Rattle.rules.specs.Sessions.{has_session}
 use Rattle.rules.specs.Watching.{notices_of}

@@ -24,16 +24,16 @@ use Rattle.adn.specs.declared.edit.RowUpdate.{RowUpdate}
 use Rattle.adn.specs.declared.edit.Plan.{Plan}
 use Rattle.families.specs.Plans.{plan_updates}
 use Rattle.families.specs.Families.{family_paths, family_path}
-use Rattle.rules.specs.declared.history.History.{History}
-use Rattle.rules.specs.declared.files.CachedFile.{CachedFile}
-use Rattle.rules.specs.declared.files.Touch.{Touch}
+use Rattle.epoch_cache.specs.declared.past.Past.{Past}
+use Rattle.epoch_cache.specs.declared.cached.CachedFile.{CachedFile}
+use Rattle.epoch_cache.specs.declared.cached.Touch.{Touch}
 use Rattle.rules.specs.declared.holdings.Session.{Session}
 use Rattle.rules.specs.declared.edits.Attempt.{Attempt}
 use Rattle.rules.specs.declared.edits.Decided.{Decided}
 use Rattle.rules.specs.declared.edits.Editing.{Editing}
 use Rattle.rules.specs.declared.kept.Begun.{Begun}
-use Rattle.rules.specs.Commands.{is_at}
-use Rattle.rules.specs.Cache.{moves_one, taken, view_of_files}
+use Rattle.link.specs.Commands.{is_at}
+use Rattle.epoch_cache.specs.Cache.{moves_one, taken, view_of_files}
 use Rattle.rules.specs.Sessions.{lacking_key}
 
 -- ---- what is edited
@@ -102,10 +102,10 @@ abbrev pub card_need : CardState → List ℕ → Need
 card_need card path = need_of_file card (file_of path card)
 
 -- the key that the actor lacks for one update
-abbrev pub lacks_for : History → ℕ → List Session → List CachedFile → ℕ → RowUpdate → Option ℕ
+abbrev pub lacks_for : Past → ℕ → List Session → List CachedFile → ℕ → RowUpdate → Option ℕ
 lacks_for history actor sessions files f u = lacking_key history actor sessions (update_need files (family_path f u.file))
 
-abbrev pub first_lack : History → ℕ → List Session → List CachedFile → ℕ → List RowUpdate → Option ℕ
+abbrev pub first_lack : Past → ℕ → List Session → List CachedFile → ℕ → List RowUpdate → Option ℕ
 first_lack history actor sessions files f [] = None
 first_lack history actor sessions files f (u ∷ updates) = elim (lacks_for history actor sessions files f u) [
   | Some key ↦ Some key

@@ -10,7 +10,7 @@ use Rattle.apdu.specs.Apdu.{fetch_ins, is_announcement}
 use Rattle.card_model.specs.declared.world.WorldEvent.TheVariants as world_event
 use Rattle.report.specs.declared.line.Line.{Line}
 use Rattle.report.specs.declared.line.Line.TheVariants as line
-use Rattle.rules.specs.declared.history.History.{History}
+use Rattle.epoch_cache.specs.declared.past.Past.{Past}
 
 -- one more, where the test holds
 abbrev pub counted : Bool → ℕ → ℕ
@@ -116,7 +116,7 @@ lives_behind l before = begins_epoch l || (not (stops_epoch l) && before)
 abbrev pub owes_reset_behind : Line → Bool → Bool
 owes_reset_behind l before = is_failed_exchange l || (not (is_epoch_border l) && before)
 
-abbrev pub history_after : Line → History → History
+abbrev pub history_after : Line → Past → History
 history_after l h = record {
   events = counted (is_event l) h.events;
   calls = counted (is_call l) h.calls;
@@ -127,14 +127,14 @@ history_after l h = record {
 }
 
 -- the line is an event that ends the epoch that lived before it
-abbrev pub ends_epoch : Line → History → Bool
+abbrev pub ends_epoch : Line → Past → Bool
 ends_epoch l h = is_epoch_border l && h.living
 
 -- the epoch of this number lives
-abbrev pub is_living : History → ℕ → Bool
+abbrev pub is_living : Past → ℕ → Bool
 is_living h epoch = h.living && (h.epoch == epoch)
 
 -- the same of an epoch that there may be
-abbrev pub lives_in : History → Option ℕ → Bool
+abbrev pub lives_in : Past → Option ℕ → Bool
 lives_in h None = false
 lives_in h (Some epoch) = is_living h epoch

@@ -11,10 +11,10 @@ use Rattle.report.specs.declared.line.Line.{Line}
 use Rattle.report.specs.declared.lines.Report.{Report}
 use Rattle.families.specs.Families.{View, all_families, shown}
 use Rattle.rules.specs.declared.due.Due.TheVariants.{Publish as publish}
-use Rattle.rules.specs.declared.files.CachedFile.{CachedFile}
+use Rattle.epoch_cache.specs.declared.cached.CachedFile.{CachedFile}
 use Rattle.rules.specs.declared.kept.Job.{Job}
 use Rattle.rules.specs.declared.kept.Kept.{Kept}
-use Rattle.rules.specs.Cache.{taken, is_current}
+use Rattle.epoch_cache.specs.Cache.{taken, is_current}
 use Rattle.rules.specs.Due.{due, kept_text}
 use Rattle.rules.specs.After.{kept_of}
 use Rattle.rules.specs.State.{world_of, view_in}

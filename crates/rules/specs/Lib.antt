@@ -1,8 +1,6 @@
-pub mod Values
 pub mod History
 pub mod Commands
 pub mod Cache
-pub mod Reading
 pub mod Refresh
 pub mod Channels
 pub mod Sessions

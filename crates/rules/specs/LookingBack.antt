@@ -11,13 +11,13 @@ use Rattle.report.specs.declared.answer.Answer.TheVariants as answer
 use Rattle.report.specs.declared.line.Line.{Line}
 use Rattle.report.specs.declared.line.Line.TheVariants as line
 use Rattle.families.specs.Families.{family_paths}
-use Rattle.rules.specs.declared.files.CachedFile.{CachedFile}
-use Rattle.rules.specs.declared.files.RefusedReading.{RefusedReading}
+use Rattle.epoch_cache.specs.declared.cached.CachedFile.{CachedFile}
+use Rattle.loader.specs.declared.reading.RefusedReading.{RefusedReading}
 use Rattle.rules.specs.declared.holdings.Handle.{Handle}
 use Rattle.rules.specs.declared.kept.Facts.{Facts}
 use Rattle.rules.specs.declared.kept.Kept.{Kept}
 use Rattle.rules.specs.History.{is_event, is_call, begins_epoch, stops_epoch, is_epoch_border, is_failed_exchange}
-use Rattle.rules.specs.Cache.{renews_one, is_moved, is_unknown_write, is_of}
+use Rattle.epoch_cache.specs.Cache.{renews_one, is_moved, is_unknown_write, is_of}
 use Rattle.rules.specs.Standing.{settled_by, refused_in}
 use Rattle.rules.specs.Kept.{operation_at}
 use Rattle.rules.specs.After.{is_publication, is_mark, is_started, facts_of, family_begun, completed_of, refused_of, jobs_beside, kept_of}

@@ -14,9 +14,9 @@ use Rattle.report.specs.declared.line.Line.{Line}
 use Rattle.report.specs.declared.line.Line.TheVariants as line
 use Rattle.rules.specs.History.{begins_epoch, is_epoch_border}
 use Rattle.apdu.specs.Words.{has_value}
-use Rattle.rules.specs.declared.chains.Final.{Final}
-use Rattle.rules.specs.Cache.{asks_reset}
-use Rattle.rules.specs.Commands.{is_basic_select, is_path_select}
+use Rattle.link.specs.declared.chain.Final.{Final}
+use Rattle.epoch_cache.specs.Cache.{asks_reset}
+use Rattle.link.specs.Commands.{is_basic_select, is_path_select}
 
 -- ---- commands
 

@@ -30,7 +30,7 @@ use Rattle.report.specs.declared.line.Line.{Line}
 use Rattle.report.specs.declared.line.Line.TheVariants as line
 use Rattle.families.specs.Plans.{edited, same_book, plan_updates}
 use Rattle.families.specs.Families.{family_book, family_path, family_plan}
-use Rattle.rules.specs.declared.chains.Chain.{Chain}
+use Rattle.link.specs.declared.chain.Chain.{Chain}
 use Rattle.rules.specs.declared.edits.Attempt.{Attempt}
 use Rattle.rules.specs.declared.edits.Decided.{Decided}
 use Rattle.rules.specs.declared.kept.Begun.{Begun}
@@ -38,7 +38,7 @@ use Rattle.rules.specs.declared.kept.Kept.{Kept}
 use Rattle.rules.specs.declared.kept.Turn.{Turn}
 use Rattle.rules.specs.declared.standing.Standing.{Standing}
 use Rattle.rules.specs.History.{lives_in}
-use Rattle.rules.specs.Commands.{is_at}
+use Rattle.link.specs.Commands.{is_at}
 use Rattle.rules.specs.Channels.{held_numbers, same_channels}
 use Rattle.rules.specs.Sessions.{lacking_key, verify_command}
 use Rattle.rules.specs.Editing.{next_update, update_command, family_edit, card_need, owed_update, left_rows}

@@ -12,7 +12,7 @@ use Rattle.script_reader.specs.declared.types.Operation.{Operation}
 use Rattle.script_reader.specs.declared.types.Operation.TheVariants as operation
 use Rattle.report.specs.declared.answer.Answer.{Answer}
 use Rattle.report.specs.declared.answer.Answer.TheVariants as answer
-use Rattle.rules.specs.declared.history.History.{History}
+use Rattle.epoch_cache.specs.declared.past.Past.{Past}
 use Rattle.rules.specs.declared.holdings.Session.{Session}
 use Rattle.rules.specs.History.{is_living}
 
@@ -27,7 +27,7 @@ abbrev pub has_session : ℕ → ℕ → List Session → Bool
 has_session actor key sessions = is_some (session_of actor key sessions)
 
 -- a session of the living epoch
-abbrev pub has_living_session : History → ℕ → ℕ → List Session → Bool
+abbrev pub has_living_session : Past → ℕ → ℕ → List Session → Bool
 has_living_session history actor key sessions = has_value (λ (p : Session). is_living history p.epoch) (session_of actor key sessions)
 
 abbrev pub without_session : ℕ → ℕ → List Session → List Session
@@ -46,7 +46,7 @@ abbrev pub verify_command : ℕ → List ℕ → CommandValue
 verify_command key pin = command verify_ins 0x00 key pin None
 
 -- the key of the session that an actor lacks for a need; `never` is left to the card
-abbrev pub lacking_key : History → ℕ → List Session → Need → Option ℕ
+abbrev pub lacking_key : Past → ℕ → List Session → Need → Option ℕ
 lacking_key history actor sessions Always = None
 lacking_key history actor sessions Never = None
 lacking_key history actor sessions (Key key) = if has_living_session history actor key sessions then None else Some key

@@ -11,10 +11,10 @@ use Rattle.script_reader.specs.declared.types.Operation.TheVariants as operation
 use Rattle.report.specs.declared.line.Line.{Line}
 use Rattle.report.specs.declared.line.Line.TheVariants as line
 use Rattle.families.specs.Families.{family_paths, has_path}
-use Rattle.rules.specs.declared.files.RefusedReading.{RefusedReading}
-use Rattle.rules.specs.declared.files.Touch.{Touch}
+use Rattle.loader.specs.declared.reading.RefusedReading.{RefusedReading}
+use Rattle.epoch_cache.specs.declared.cached.Touch.{Touch}
 use Rattle.rules.specs.declared.standing.Standing.{Standing}
-use Rattle.rules.specs.Cache.{renews_one}
+use Rattle.epoch_cache.specs.Cache.{renews_one}
 
 abbrev pub first_standing : ℕ → Standing
 first_standing f = record { family = f; wanted = false; stale = None; renewed = 0; refused = None; shown = None }

@@ -14,7 +14,7 @@ use Rattle.families.specs.Plans.{plan_updates}
 use Rattle.families.specs.Families.{family_paths, family_plan}
 use Rattle.rules.specs.declared.edits.Attempt.{Attempt}
 use Rattle.rules.specs.declared.edits.Editing.{Editing}
-use Rattle.rules.specs.declared.files.CachedFile.{CachedFile}
+use Rattle.epoch_cache.specs.declared.cached.CachedFile.{CachedFile}
 use Rattle.rules.specs.declared.holdings.Handle.{Handle}
 use Rattle.rules.specs.declared.kept.Begun.{Begun}
 use Rattle.rules.specs.declared.kept.Decision.{Decision}
@@ -23,7 +23,7 @@ use Rattle.rules.specs.declared.kept.Kept.{Kept}
 use Rattle.rules.specs.declared.kept.Work.{Work}
 use Rattle.rules.specs.declared.kept.Work.TheVariants.{Rests as rests, Refuses as refuses, Lacks as lacks, Sends as sends, Reads as reads, Writes as writes, Resets as resets, Happens as happens}
 use Rattle.rules.specs.History.{lives_in}
-use Rattle.rules.specs.Cache.{first_missing, view_of_files}
+use Rattle.epoch_cache.specs.Cache.{first_missing, view_of_files}
 use Rattle.rules.specs.Channels.{handle_of, is_living_handle, is_raw_ins, on_channel, open_command, close_command}
 use Rattle.rules.specs.Sessions.{verify_command}
 use Rattle.rules.specs.Refresh.{startup_steps, startup_command, fetch_command}

@@ -1,12 +1,12 @@
 // What is kept of the lines so far: all that the rules, and what is due, look back for.
 
-use crate::{
-    Attempt, CachedFiles, Chain, Editing, Final, Handles, History, Mailbox, Readings, Sessions,
-    Standing, Touch,
-};
+use crate::{Attempt, Editing, Handles, Mailbox, Sessions, Standing};
 use adn::PlanError;
 use apdu::{Command, Path, Response, Sequence, Sw};
 use card_model::WorldEvent;
+use epoch_cache::{CachedFiles, Past, Touch};
+use link::{Chain, Final};
+use loader::Readings;
 
 /// An operation that has begun and is not answered.
 #[derive(Drop)]
@@ -137,7 +137,7 @@ pub type Jobs = Sequence<Job>;
 /// All that is kept.
 #[derive(Drop)]
 pub struct Kept {
-    pub history: History,
+    pub history: Past,
     /// How many publications there were.
     pub publications: u64,
     /// How many turns have begun.

@@ -2,22 +2,16 @@
 //! definitions, and laws of them, each the contract of a function that does nothing.
 #![tactic(auto)]
 
-mod chains;
 mod due;
 mod edits;
-mod files;
-mod history;
 mod holdings;
 mod judging;
 mod kept;
 mod laws;
 mod standing;
 
-pub use chains::{Chain, Final};
 pub use due::Due;
 pub use edits::{Attempt, Decided, Editing};
-pub use files::{CachedFile, CachedFiles, Reading, Readings, RefusedReading, Touch, Written};
-pub use history::History;
 pub use holdings::{Handle, Handles, Mailbox, Session, Sessions};
 pub use judging::{
     judges_broken_answers, judges_broken_channels, judges_broken_edits, judges_broken_ending,

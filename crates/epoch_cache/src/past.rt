@@ -2,7 +2,7 @@
 
 /// How many events there were, and which epoch lives.
 #[derive(Clone, Copy)]
-pub struct History {
+pub struct Past {
     /// How many events there were.
     pub events: u64,
     /// How many calls of the slot there were.

@@ -17,13 +17,13 @@ use Rattle.fcp.specs.declared.rows.FileKind.TheVariants.{Transparent, Linear, Di
 use Rattle.fcp.specs.Content.{Content, missing, transparent, linear}
 use Rattle.fcp.specs.Control.{read_fcp}
 use Rattle.card_model.specs.Card.{is_in_application}
-use Rattle.rules.specs.declared.chains.Final.{Final}
-use Rattle.rules.specs.declared.files.CachedFile.{CachedFile}
-use Rattle.rules.specs.declared.files.RefusedReading.{RefusedReading}
-use Rattle.rules.specs.declared.files.Touch.{Touch}
-use Rattle.rules.specs.Values.{ReadingValue, is_readable}
-use Rattle.rules.specs.Commands.{is_reading_select, named_path, is_refused, file_not_found}
-use Rattle.rules.specs.Cache.{is_spoiled}
+use Rattle.link.specs.declared.chain.Final.{Final}
+use Rattle.epoch_cache.specs.declared.cached.CachedFile.{CachedFile}
+use Rattle.loader.specs.declared.reading.RefusedReading.{RefusedReading}
+use Rattle.epoch_cache.specs.declared.cached.Touch.{Touch}
+use Rattle.loader.specs.Values.{ReadingValue, is_readable}
+use Rattle.link.specs.Commands.{is_reading_select, named_path, is_refused, file_not_found}
+use Rattle.epoch_cache.specs.Cache.{is_spoiled}
 
 -- ---- the READs of a file
 
