@@ -1,2 +1,3 @@
 pub mod Plans
 pub mod Families
+pub mod Contents

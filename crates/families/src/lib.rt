@@ -1,2 +1,8 @@
-//! The families of files that are published, and what is shown of each. This crate has definitions alone so far.
+//! The families of files that are published, what their files are decoded to, and the JSON that is shown
+//! of each.
 #![tactic(auto)]
+
+mod content;
+mod json;
+
+pub use content::{Field, Records, StandardContent};
