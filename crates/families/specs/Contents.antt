@@ -26,9 +26,16 @@ abbrev pub field_read : {A : Type 0} → Result A ℕ → Field A
 field_read (Ok value) = Present value
 field_read (Err at) = Malformed at
 
--- a field of a transparent file, which a file of another kind has not
+-- the bytes of a transparent file; a file of another kind has none
+abbrev pub bytes_of : Content → Option (List ℕ)
+bytes_of file = if is_transparent file.kind then Some (first_row file.rows) else None
+
+abbrev pub field_in : {A : Type 0} → (List ℕ → Result A ℕ) → Option (List ℕ) → Field A
+field_in read None = Absent
+field_in read (Some bytes) = field_read (read bytes)
+
 abbrev pub field_of : {A : Type 0} → (List ℕ → Result A ℕ) → Content → Field A
-field_of read content = if is_transparent content.kind then field_read (read (first_row content.rows)) else Absent
+field_of read file = field_in read (bytes_of file)
 
 -- a row that may be empty
 abbrev pub row_read : {A : Type 0} → Result (Option A) ℕ → Field A

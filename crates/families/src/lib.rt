@@ -3,6 +3,7 @@
 #![tactic(auto)]
 
 mod content;
+mod decode;
 mod json;
 
 pub use content::{Field, Records, StandardContent};
