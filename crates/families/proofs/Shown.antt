@@ -126,30 +126,3 @@ json_whole (content.Records r) = parts_whole
     (list_whole family.entry_data entry_whole r.msisdn)
     (field_whole family.spn_data (λ spn. refl) r.spn)
 json_whole (content.Book book) = absent (items_have_float (family.items (map family.entry_data book))) false (list_whole family.entry_data entry_whole book) refl
-
--- ---- what is shown is of the family's own files
-
-same_records : (v w : family.View) → v family.ad_path ≡ w family.ad_path → v family.dir_path ≡ w family.dir_path → v family.iccid_path ≡ w family.iccid_path → v family.imsi_path ≡ w family.imsi_path → v family.msisdn_path ≡ w family.msisdn_path → v family.ext5_path ≡ w family.ext5_path → v family.spn_path ≡ w family.spn_path
-    → family.family_data 0 v ≡ family.family_data 0 w
-same_records v w p q r s t u x = rw (p, q, r, s, t, u, x) refl
-
-abbrev Same : family.View → family.View → List ℕ → Type 0
-Same v w path = v path ≡ w path
-
-records_by_paths : (v w : family.View) → All (Same v w) (family.family_paths 0) → family.family_data 0 v ≡ family.family_data 0 w
-records_by_paths v w same = same_records v w (same 2 [] (omega arith)) (same 6 [] (omega arith)) (same 0 [] (omega arith)) (same 1 [] (omega arith)) (same 4 [] (omega arith)) (same 5 [] (omega arith)) (same 3 [] (omega arith))
-
-book_by_paths : (main ext : List ℕ) (v w : family.View) → All (Same v w) (main ∷ ext ∷ []) → family.book_data (v main) (v ext) ≡ family.book_data (w main) (w ext)
-book_by_paths main ext v w same =
-    let p : v main ≡ w main = same 0 [] (omega arith) in
-    let q : v ext ≡ w ext = same 1 [] (omega arith) in
-    rw (p, q) refl
-
-data_by_paths : (f : ℕ) (v w : family.View) → f < 3 → All (Same v w) (family.family_paths f) → family.family_data f v ≡ family.family_data f w
-data_by_paths zero v w known same = records_by_paths v w same
-data_by_paths (suc zero) v w known same = book_by_paths family.adn_path family.ext1_path v w same
-data_by_paths (suc (suc zero)) v w known same = book_by_paths family.fdn_path family.ext2_path v w same
-data_by_paths (suc (suc (suc f))) v w known same = absurd (omega arith)
-
-pub shown_by_paths : (f : ℕ) (v w : family.View) → f < 3 → All (λ path. v path ≡ w path) (family.family_paths f) → family.shown f v ≡ family.shown f w
-shown_by_paths f v w known same = ap compact_text (data_by_paths f v w known same)

@@ -1,5 +1,5 @@
 -- What the files of the three families are decoded to, and the JSON of it.
-use Rattle.std.specs.Prelude.{ℕ, ◌==◌, if◌then◌else◌, List, [], ◌∷◌, map, Option, Some, None, unwrap_or, Result, Ok, Err, codes}
+use Rattle.std.specs.Prelude.{ℕ, ◌==◌, not, Bool, length, if◌then◌else◌, List, [], ◌∷◌, map, Option, Some, None, unwrap_or, Result, Ok, Err, codes}
 use Rattle.fcp.specs.Content.{Content, missing, first_row, is_transparent}
 use Rattle.sim_codecs.specs.Digits.{iccid_of, imsi_of}
 use Rattle.sim_codecs.specs.Fields.{spn_of, ad_of}
@@ -14,11 +14,18 @@ use Rattle.families.specs.declared.content.Field.TheVariants.{Absent, Present, M
 use Rattle.families.specs.declared.content.Records.{Records}
 use Rattle.families.specs.declared.content.StandardContent.{StandardContent}
 use Rattle.families.specs.declared.content.StandardContent.TheVariants as content
-use Rattle.families.specs.Families.{View, records, iccid_path, imsi_path, ad_path, spn_path, msisdn_path, ext5_path, dir_path, family_book, members, items, bad_at, ad_data, spn_data, application_data, entry_data, entries_data, linear_rows}
+use Rattle.families.specs.Families.{View, all_families, records, iccid_path, imsi_path, ad_path, spn_path, msisdn_path, ext5_path, dir_path, family_book, members, items, bad_at, ad_data, spn_data, application_data, entry_data, entries_data, linear_rows}
 
 -- what the files hold, of which one that is not known counts as none
 abbrev pub files_of : (List ℕ → Option Content) → View
 files_of content path = unwrap_or (content path) missing
+
+abbrev pub family_count : ℕ
+family_count = length all_families
+
+-- the books alone
+abbrev pub is_editable : ℕ → Bool
+is_editable f = not (f == records)
 
 -- ---- decoded
 

@@ -36,7 +36,7 @@ fn field<T>(answer: Result<T, FieldError>) -> Result<Field<T>, Memory>
     }
 }
 
-fn iccid_field(alloc: Global, file: &Rows) -> Result<Field<Text>, Memory>
+pub(crate) fn iccid_field(alloc: Global, file: &Rows) -> Result<Field<Text>, Memory>
     ensures { IfOk result (λ field. field ≡ spec.field_of digits.iccid_of file.now) }
 {
     match bytes_of(file) {
@@ -45,7 +45,7 @@ fn iccid_field(alloc: Global, file: &Rows) -> Result<Field<Text>, Memory>
     }
 }
 
-fn imsi_field(alloc: Global, file: &Rows) -> Result<Field<Text>, Memory>
+pub(crate) fn imsi_field(alloc: Global, file: &Rows) -> Result<Field<Text>, Memory>
     ensures { IfOk result (λ field. field ≡ spec.field_of digits.imsi_of file.now) }
 {
     match bytes_of(file) {
@@ -54,7 +54,7 @@ fn imsi_field(alloc: Global, file: &Rows) -> Result<Field<Text>, Memory>
     }
 }
 
-fn ad_field(file: &Rows) -> Result<Field<Ad>, Memory>
+pub(crate) fn ad_field(file: &Rows) -> Result<Field<Ad>, Memory>
     ensures { IfOk result (λ field. field ≡ spec.field_of fields.ad_of file.now) }
 {
     match bytes_of(file) {
@@ -63,7 +63,7 @@ fn ad_field(file: &Rows) -> Result<Field<Ad>, Memory>
     }
 }
 
-fn spn_field(alloc: Global, file: &Rows) -> Result<Field<Spn>, Memory>
+pub(crate) fn spn_field(alloc: Global, file: &Rows) -> Result<Field<Spn>, Memory>
     ensures { IfOk result (λ field. field ≡ spec.field_of fields.spn_of file.now) }
 {
     match bytes_of(file) {
@@ -85,7 +85,7 @@ fn application(alloc: Global, row: &[u8]) -> Result<Field<AppRow>, Memory>
 }
 
 /// The rows of EF_DIR, of which a file that is not linear has none.
-fn applications(alloc: Global, dir: &Rows) -> Result<Sequence<Field<AppRow>>, Memory>
+pub(crate) fn applications(alloc: Global, dir: &Rows) -> Result<Sequence<Field<AppRow>>, Memory>
     ensures { IfOk result (λ rows. rows ≡ spec.applications_of dir.now) }
 {
     let mut rows = Sequence::new(alloc);

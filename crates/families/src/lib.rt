@@ -4,6 +4,10 @@
 
 mod content;
 mod decode;
+mod family_set;
 mod json;
+mod standard;
 
 pub use content::{Field, Records, StandardContent};
+pub use family_set::{ContentText, Families};
+pub use standard::Standard;
