@@ -14,8 +14,8 @@ pub enum Field<T> {
     Malformed { at: usize },
 }
 
-/// The card's number, its subscriber, its network, and its applications: ETSI TS 102 221 clause 13 and
-/// 3GPP TS 31.102 clause 4.2.
+/// The card's number, its subscriber, the service provider, and the card's applications: ETSI TS 102 221
+/// clause 13 and 3GPP TS 31.102 clause 4.2.
 #[derive(Drop)]
 pub struct Records {
     pub iccid: Field<Text>,

@@ -60,10 +60,13 @@ pub trait Families {
         view: &V,
     ) -> Result<Self::Content, Memory>
         requires { family < family_count self.now }
-        ensures content { IfOk result (λ content. content ≡ decoded self.now family (files_of (V.content view.now))) }
-        ensures text { IfOk result (λ content. Self.Content.shown_text content ≡ shown self.now family (files_of (V.content view.now))) };
+        ensures content { IfOk result (λ content.
+            content ≡ decoded self.now family (files_of (V.content view.now))) }
+        ensures text { IfOk result (λ content.
+            Self.Content.shown_text content ≡ shown self.now family (files_of (V.content view.now))) };
 
     /// What is shown of a family is of the files of its paths alone.
-    ghost shown_by_paths: { (set : Self) (family : ℕ) (v w : View) → family < family_count set
-        → SameFiles (family_paths set family) v w → shown set family v ≡ shown set family w };
+    ghost shown_by_paths: { (set : Self) (family : ℕ) (v w : View)
+        → family < family_count set → SameFiles (family_paths set family) v w
+        → shown set family v ≡ shown set family w };
 }

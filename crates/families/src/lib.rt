@@ -11,3 +11,6 @@ mod standard;
 pub use content::{Field, Records, StandardContent};
 pub use family_set::{ContentText, Families};
 pub use standard::Standard;
+
+#[cfg(test)]
+mod tests;

@@ -1,5 +1,5 @@
 // The three families of a USIM.
-ghost use Rattle.std.specs.Prelude.{◌≡◌, ◌≤◌, ◌<◌, IfOk, length};
+ghost use Rattle.std.specs.Prelude.{◌≡◌, ◌≤◌, ◌<◌, [], ◌∷◌, IfOk, length};
 ghost use Rattle.fcp.specs.Content as file_content;
 ghost use Rattle.adn.specs.Book as phonebook;
 ghost use Rattle.families.specs.Families as standard;
@@ -70,7 +70,16 @@ fn records_paths() -> ArrayVec<Path, 8>
     paths
 }
 
-/// The file of a path.
+fn book_paths(main: [u16; 2], extension: [u16; 2]) -> ArrayVec<Path, 8>
+    ensures { result.items ≡ main ∷ extension ∷ [] }
+{
+    let mut paths = ArrayVec::new_in(());
+    paths.push(path(&main));
+    paths.push(path(&extension));
+    paths
+}
+
+/// The file of a path, which is this one where the view does not know it.
 fn file<'a, V: FileView>(view: &'a V, ids: &[u16], missing: &'a Rows) -> &'a Rows
     requires some { 0 < length ids.now }
     requires few { length ids.now ≤ 3 }
@@ -81,7 +90,8 @@ fn file<'a, V: FileView>(view: &'a V, ids: &[u16], missing: &'a Rows) -> &'a Row
 }
 
 fn records<V: FileView>(alloc: Global, view: &V) -> Result<Records, Memory>
-    ensures { IfOk result (λ records. records ≡ spec.records_of (spec.files_of (V.content view.now))) }
+    ensures { IfOk result (λ records.
+        records ≡ spec.records_of (spec.files_of (V.content view.now))) }
 {
     let missing = Rows::missing(alloc);
     Ok(Records {
@@ -102,33 +112,31 @@ fn records<V: FileView>(alloc: Global, view: &V) -> Result<Records, Memory>
 fn book<V: FileView>(
     alloc: Global,
     view: &V,
-    main: &[u16],
-    extension: &[u16],
+    main: [u16; 2],
+    extension: [u16; 2],
 ) -> Result<Book, Memory>
-    requires main_some { 0 < length main.now }
-    requires main_few { length main.now ≤ 3 }
-    requires extension_some { 0 < length extension.now }
-    requires extension_few { length extension.now ≤ 3 }
     ensures { IfOk result (λ book. book ≡ phonebook.decode_book
-        (spec.files_of (V.content view.now) main.now) (spec.files_of (V.content view.now) extension.now)) }
+        (spec.files_of (V.content view.now) main)
+        (spec.files_of (V.content view.now) extension)) }
 {
     let missing = Rows::missing(alloc);
     decode_book(
         alloc,
-        file(view, main, &missing),
-        file(view, extension, &missing),
+        file(view, &main, &missing),
+        file(view, &extension, &missing),
     )
 }
 
 /// What the files of a family hold.
 fn content<V: FileView>(alloc: Global, family: u8, view: &V) -> Result<StandardContent, Memory>
-    requires { family < 3 }
-    ensures { IfOk result (λ content. content ≡ spec.decoded family (spec.files_of (V.content view.now))) }
+    requires { family < spec.family_count }
+    ensures { IfOk result (λ content.
+        content ≡ spec.decoded family (spec.files_of (V.content view.now))) }
 {
     match family {
         RECORDS => Ok(StandardContent::Records(records(alloc, view)?)),
-        PHONEBOOK => Ok(StandardContent::Book(book(alloc, view, &ADN, &EXT1)?)),
-        _ => Ok(StandardContent::Book(book(alloc, view, &FDN, &EXT2)?)),
+        PHONEBOOK => Ok(StandardContent::Book(book(alloc, view, ADN, EXT1)?)),
+        _ => Ok(StandardContent::Book(book(alloc, view, FDN, EXT2)?)),
     }
 }
 
@@ -164,18 +172,11 @@ impl Families for Standard {
     }
 
     fn paths(&self, family: u8) -> ArrayVec<Path, 8> {
-        if family == RECORDS {
-            return records_paths();
+        match family {
+            RECORDS => records_paths(),
+            PHONEBOOK => book_paths(ADN, EXT1),
+            _ => book_paths(FDN, EXT2),
         }
-        let mut paths = ArrayVec::new_in(());
-        if family == PHONEBOOK {
-            paths.push(path(&ADN));
-            paths.push(path(&EXT1));
-        } else {
-            paths.push(path(&FDN));
-            paths.push(path(&EXT2));
-        }
-        paths
     }
 
     fn editable(&self, family: u8) -> bool {
