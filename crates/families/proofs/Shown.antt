@@ -1,8 +1,8 @@
 -- What is decoded of a family's files shows them.
-use Rattle.std.proofs.Common.{◌≡◌, ◌<◌, ◌==◌, ◌||◌, if◌then◌else◌, ℕ, zero, suc, Bool, true, false, List, [], ◌∷◌, map, Option, Some, None, Result, Ok, Err, All, refl, ap, ◌∙◌, arith, codes}
+use Rattle.std.proofs.Common.{◌≡◌, ◌==◌, ◌||◌, if◌then◌else◌, ℕ, Bool, true, false, List, [], ◌∷◌, map, Option, Some, None, Result, Ok, Err, refl, ap, codes}
 use Rattle.fcp.specs.declared.rows.FileKind.{FileKind}
 use Rattle.fcp.specs.declared.rows.FileKind.TheVariants.{Transparent, Linear, Directory}
-use Rattle.fcp.specs.Content.{Content, is_transparent, first_row}
+use Rattle.fcp.specs.Content.{Content, first_row}
 use Rattle.sim_codecs.specs.Digits.{iccid_of, imsi_of}
 use Rattle.sim_codecs.specs.Fields.{spn_of, ad_of}
 use Rattle.sim_codecs.specs.Applications.{dir_row_of}
@@ -10,7 +10,6 @@ use Rattle.sim_codecs.specs.declared.values.AppRow.{AppRow}
 use Rattle.sim_codecs.specs.declared.values.Ad.{Ad}
 use Rattle.adn.specs.declared.entry.BookRow.{BookRow}
 use Rattle.adn.specs.declared.entry.BookRow.TheVariants.{Free, Entry, Unreadable}
-use Rattle.adn.specs.Book.{decode_book}
 use Rattle.serde_json.specs.Data.{Data, string, array, object}
 use Rattle.serde_json.specs.Written.{compact_text, has_float, items_have_float}
 use Rattle.families.specs.declared.content.Field.{Field}

@@ -14,7 +14,7 @@ use Rattle.families.specs.declared.content.Field.TheVariants.{Absent, Present, M
 use Rattle.families.specs.declared.content.Records.{Records}
 use Rattle.families.specs.declared.content.StandardContent.{StandardContent}
 use Rattle.families.specs.declared.content.StandardContent.TheVariants as content
-use Rattle.families.specs.Families.{View, all_families, records, iccid_path, imsi_path, ad_path, spn_path, msisdn_path, ext5_path, dir_path, family_book, members, items, bad_at, ad_data, spn_data, application_data, entry_data, entries_data, linear_rows}
+use Rattle.families.specs.Families.{View, all_families, records, iccid_path, imsi_path, ad_path, spn_path, msisdn_path, ext5_path, dir_path, family_book, members, items, bad_at, ad_data, spn_data, application_data, entry_data, linear_rows}
 
 -- what the files hold, of which one that is not known counts as none
 abbrev pub files_of : (List ℕ → Option Content) → View

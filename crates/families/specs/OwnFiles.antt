@@ -1,8 +1,7 @@
 -- What is shown of a family is of the files of its paths: the law of `Standard`.
-use Rattle.std.specs.Prelude.{◌≡◌, ◌<◌, ◌≤◌, ℕ, zero, suc, true, List, refl}
+use Rattle.std.specs.Prelude.{◌≡◌, ◌<◌, ℕ, zero, suc, true, List, refl}
 use Rattle.std.proofs.Common.{◌∙◌, ap}
 use Rattle.apdu.specs.Words.{path_is_in}
-use Rattle.fcp.specs.Content.{Content}
 use Rattle.serde_json.specs.Written.{compact_text}
 use Rattle.std.proofs.Math.Nat.{le_of_suc-le-suc, not-suc-le-zero}
 use Rattle.families.specs.Families.{View, family_paths, family_data, records_data, book_data, shown, iccid_path, imsi_path, ad_path, spn_path, msisdn_path, ext5_path, dir_path, adn_path, ext1_path, fdn_path, ext2_path}
