@@ -1,2 +1,4 @@
 pub mod Plans
 pub mod Families
+pub mod Contents
+pub mod OwnFiles
