@@ -1,2 +1,7 @@
+pub mod Same
 pub mod Table
 pub mod Effects
+pub mod Basic
+pub mod Files
+pub mod Rows
+pub mod Fine

@@ -1,2 +1,4 @@
 pub mod Effect
+pub mod Basic
+pub mod Fine
 pub mod Laws
