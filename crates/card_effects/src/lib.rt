@@ -3,4 +3,7 @@
 
 mod laws;
 
-pub use laws::command_has_effect;
+pub use laws::{
+    applications_stay, basic_channel_is_selected, command_has_effect, files_stay_well_formed,
+    untouched_files_stay,
+};
