@@ -1,5 +1,5 @@
 -- What any command does to a card: the rows of the card's table as one list of effects.
-use Rattle.std.proofs.Common.{◌≡◌, inl, inr, ℕ, ◌==◌, ◌≤◌, length, Bool, true, false, ◌&&◌, if◌then◌else◌, Option, Some, None, List, [], ◌∷◌, refl, ap, sym, ◌∙◌, subst, arith}
+use Rattle.std.proofs.Common.{◌≡◌, inl, inr, ℕ, ◌==◌, ◌≤◌, length, Bool, true, false, ◌&&◌, if◌then◌else◌, Option, Some, None, List, refl, ap, sym, ◌∙◌, subst, arith}
 use Rattle.std.specs.Prelude.{slice_get, find, position}
 use Rattle.std.proofs.lemmas.Bool.{cond_both, cases_Bool, eqb-true, and_parts, and_right, false≢true}
 use Rattle.std.specs.List.{position_or_len}
@@ -22,7 +22,7 @@ use Rattle.card_model.specs.Card.{has_number, channel_place, fresh_channel}
 use Rattle.card_model.specs.Answers.{refuses, with_waiting}
 use Rattle.card_model.specs.Waiting.{WaitingValue}
 use Rattle.card_model.specs.GetResponse.{waits_on, without_waiting, has_waiting_on}
-use Rattle.card_effects.specs.Effect.{acted, acts, asks_le, asks_target, selects_on_basic, basic, IsOn, Keeps, IsQuiet, RecordGiven, BinaryGiven, Gets, IsPathFound, IsAidFound, Updates, Effect, quiet, refuses_select, reads_record, reads_binary, gets, selects, updates_record, updates_binary, opens, closes, hands_over}
+use Rattle.card_effects.specs.Effect.{acted, acts, asks_le, asks_target, selects_on_basic, basic, IsOn, Keeps, RecordGiven, BinaryGiven, Gets, IsPathFound, IsAidFound, Updates, Effect, quiet, refuses_select, reads_record, reads_binary, gets, selects, updates_record, updates_binary, opens, closes, hands_over}
 use Rattle.card_effects.proofs.Table.{Refuses, refuses_by, status_keeps, profile_keeps, response_keeps, verify_keeps, get_response_does, read_binary_does, read_record_does, update_binary_does, update_record_does, select_does, manage_does, fetch_does}
 
 -- ---- the whole table

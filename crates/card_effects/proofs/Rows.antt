@@ -1,17 +1,17 @@
 -- Rows that were read, against the rows of a file. No card is in it.
-use Rattle.std.proofs.Common.{◌≡◌, ℕ, zero, suc, ◌+◌, ◌-◌, ◌*◌, ◌/◌, ◌%◌, ◌<◌, ◌≤◌, true, false, if◌then◌else◌, Option, Some, None, List, [], ◌∷◌, ◌++◌, length, take, drop, refl, ap, sym, ◌∙◌, subst, arith, min, length-append, length-drop, get_or, replicate}
-use Rattle.std.specs.Prelude.{slice_get, nat_lt, nat_le, All, Ok, is_ok}
+use Rattle.std.proofs.Common.{◌≡◌, ℕ, zero, suc, ◌+◌, ◌-◌, ◌*◌, ◌/◌, ◌%◌, ◌<◌, true, Option, Some, None, List, [], ◌∷◌, ◌++◌, length, take, drop, refl, ap, sym, ◌∙◌, subst, arith, min, length-append, length-drop, get_or, replicate}
+use Rattle.std.specs.Prelude.{slice_get, nat_lt, All, Ok, is_ok}
 use Rattle.std.specs.List.{flat_map}
-use Rattle.std.proofs.lemmas.Bool.{leb-true, false≢true}
-use Rattle.std.proofs.lemmas.List.{take_all, take_more, length-take, take_min, take_at, append-nil}
+use Rattle.std.proofs.lemmas.Bool.{false≢true}
+use Rattle.std.proofs.lemmas.List.{take_more, length-take, take_min, take_at, append-nil}
 use Rattle.std.proofs.lemmas.Option.{slice_get_within, slice_get-get_or}
 use Rattle.std.proofs.lemmas.Grind.{flat_map-append}
-use Rattle.apdu.specs.Words.{pair_value, filled_to, same_bytes}
+use Rattle.apdu.specs.Words.{pair_value, filled_to}
 use Rattle.fcp.specs.declared.control.Fcp.{Fcp}
 use Rattle.fcp.specs.declared.rows.FileKind.{FileKind}
 use Rattle.fcp.specs.declared.rows.FileKind.TheVariants.{Transparent, Linear, Directory}
-use Rattle.fcp.specs.Content.{Content, is_linear, is_transparent, first_row, HasRows, HasWidth, IsContent}
-use Rattle.fcp.specs.Control.{read_fcp, write_fcp, Describes}
+use Rattle.fcp.specs.Content.{Content, is_linear, is_transparent, first_row, HasRows, HasWidth}
+use Rattle.fcp.specs.Control.{read_fcp, write_fcp}
 use Rattle.fcp.proofs.ReadBack.{read_fcp-write_fcp}
 use Rattle.card_model.specs.declared.world.FileState.{FileState}
 use Rattle.card_model.specs.Card.{fields_of_file, file_parameters, record_at}

@@ -1,17 +1,17 @@
 -- A file that a command doesn't touch stays.
-use Rattle.std.proofs.Common.{◌≡◌, ℕ, ◌==◌, Bool, true, false, ◌&&◌, ◌||◌, if◌then◌else◌, Option, Some, None, List, [], ◌∷◌, refl, ap, sym, ◌∙◌, subst}
-use Rattle.std.specs.Prelude.{not, find, map, slice_get, option_and_then}
-use Rattle.std.specs.List.{list_all, list_any}
-use Rattle.std.proofs.lemmas.Bool.{and_from, or_parts, false≢true}
+use Rattle.std.proofs.Common.{◌≡◌, ℕ, ◌==◌, Bool, true, false, ◌||◌, if◌then◌else◌, List, [], ◌∷◌, refl, ap, sym, ◌∙◌, subst}
+use Rattle.std.specs.Prelude.{not, find, map, option_and_then}
+use Rattle.std.specs.List.{list_all}
+use Rattle.std.proofs.lemmas.Bool.{and_from, false≢true}
 use Rattle.apdu.specs.Values.{CommandValue, ResponseValue}
 use Rattle.apdu.specs.Words.{same_bytes, path_is_in}
-use Rattle.apdu.specs.Apdu.{channel_of, is_success, is_update_ins, fetch_ins, update_record_ins, update_binary_ins}
+use Rattle.apdu.specs.Apdu.{channel_of, is_success, is_update_ins, fetch_ins}
 use Rattle.apdu.specs.declared.class.ClassKind.TheVariants.{Plain}
 use Rattle.card_model.specs.declared.world.FileState.{FileState}
 use Rattle.card_model.specs.declared.world.ChannelState.{ChannelState}
 use Rattle.card_model.specs.declared.world.Change.{Change}
 use Rattle.card_model.specs.declared.world.CardState.{CardState}
-use Rattle.card_model.specs.Card.{has_number, has_path, file_at, first_armed}
+use Rattle.card_model.specs.Card.{has_path, file_at, first_armed}
 use Rattle.card_effects.specs.Effect.{IsOn, Updates, Fetches, Effect, quiet, refuses_select, reads_record, reads_binary, gets, selects, updates_record, updates_binary, opens, closes, hands_over}
 use Rattle.card_effects.specs.Touched.{list_of, current_on, paths_of, touched, changes_files, Spares}
 use Rattle.card_effects.proofs.Same.{same_bytes_is, same_bytes_self}

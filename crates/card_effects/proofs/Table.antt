@@ -1,6 +1,6 @@
 -- What a command changes of a card: one lemma for each row of the card's table.
 use Rattle.std.proofs.Common.{◌≡◌, ◌⊎◌, inl, inr, ℕ, zero, suc, ◌+◌, ◌==◌, ◌<◌, ◌≤◌, ◌-◌, ◌%◌, ◌/◌, Bool, true, false, ◌&&◌, ◌||◌, if◌then◌else◌, Option, Some, None, List, [], ◌∷◌, ◌++◌, length, refl, ap, sym, ◌∙◌, subst, arith}
-use Rattle.std.specs.Prelude.{slice_get, slice_set, not, is_some, is_none, unwrap_or, nat_le, nat_lt, take, drop}
+use Rattle.std.specs.Prelude.{slice_get, not, is_some, is_none, unwrap_or, nat_le, nat_lt, take, drop}
 use Rattle.std.proofs.lemmas.Bool.{cond_both, cases_Bool, eqb-true, not-false, and_parts, or_right, ne_eqb, false≢true}
 use Rattle.std.specs.List.{remove}
 use Rattle.fcp.specs.Content.{first_row, is_linear, is_transparent}
@@ -20,13 +20,13 @@ use Rattle.card_model.specs.Answers.{refuses, unless_refused, succeeds, answers,
 use Rattle.card_model.specs.Waiting.{WaitingValue}
 use Rattle.card_model.specs.GetResponse.{waits_on, get_response_row, get_waiting, fetch_waiting}
 use Rattle.card_model.specs.Parts.{is_part_of, is_named, part_refusal, access_refusal}
-use Rattle.card_model.specs.Read.{read_bytes, read_record, read_part, le_refusal, read_refusal, read_found, read_current, read_binary_row, read_record_row}
-use Rattle.card_model.specs.Update.{body_refusal, fit_refusal, update_refusal, with_record, with_part, with_file_at, update_found, update_at, update_binary_row, update_record_row}
+use Rattle.card_model.specs.Read.{read_bytes, read_record, read_part, le_refusal, read_refusal, read_found, read_binary_row, read_record_row}
+use Rattle.card_model.specs.Update.{body_refusal, fit_refusal, update_refusal, with_part, with_file_at, update_found, update_at, update_binary_row, update_record_row}
 use Rattle.card_model.specs.Verify.{tries_word, verify_row, verify_at, verify_found}
 use Rattle.card_model.specs.Select.{is_select_length, with_channel, ids_of, select_row, selection_answer, parameters_answer, select_found, select_application, select_ids, selected_ids}
 use Rattle.card_model.specs.Channels.{is_open, first_closed, free_number, open_number, open_with_le, open_channel, close_place, close_channel, manage_channel_row}
-use Rattle.card_model.specs.Toolkit.{with_files, with_change, fetch_with_le, fetch_armed, fetch_first, fetch_row, status_row, terminal_profile_row, terminal_response_row}
-use Rattle.card_effects.specs.Effect.{acted, Keeps, is_select_form, RefusesSelect, selecting, IsPathFound, IsAidFound, Selects, RecordGiven, ReadsRecord, BinaryGiven, IsMisfit, ReadsBinary, Gets, Updates, RecordFits, UpdatesRecord, BinaryFits, UpdatesBinary, Opens, Closes, Fetches}
+use Rattle.card_model.specs.Toolkit.{with_change, fetch_with_le, fetch_armed, fetch_first, fetch_row, status_row, terminal_profile_row, terminal_response_row}
+use Rattle.card_effects.specs.Effect.{acted, Keeps, is_select_form, RefusesSelect, selecting, IsPathFound, IsAidFound, Selects, ReadsRecord, BinaryGiven, IsMisfit, ReadsBinary, Gets, RecordFits, UpdatesRecord, BinaryFits, UpdatesBinary, Opens, Closes, Fetches}
 
 -- ---- status words
 

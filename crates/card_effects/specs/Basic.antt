@@ -1,5 +1,5 @@
 -- What a command changes of a card's basic channel.
-use Rattle.std.specs.Prelude.{◌≡◌, ◌&&◌, ℕ, true, false, Option, Some, None, List, [], ◌∷◌}
+use Rattle.std.specs.Prelude.{◌≡◌, ◌&&◌, ℕ, true, false, Some, List, [], ◌∷◌}
 use Rattle.apdu.specs.Values.{CommandValue, ResponseValue}
 use Rattle.apdu.specs.Words.{same_bytes}
 use Rattle.card_model.specs.declared.world.ChannelState.{ChannelState}

@@ -1,5 +1,5 @@
 -- Files that are well formed: what is asked of the files of cards and changes.
-use Rattle.std.specs.Prelude.{◌≡◌, ◌≤◌, ℕ, true, false, List, [], ◌∷◌, find, slice_get, Option, Some, is_ok}
+use Rattle.std.specs.Prelude.{◌≡◌, ◌≤◌, ℕ, false, List, [], ◌∷◌, find, slice_get, Some, is_ok}
 use Rattle.apdu.specs.Words.{same_bytes}
 use Rattle.fcp.specs.Content.{IsContent}
 use Rattle.fcp.specs.Control.{read_fcp, Describes}
