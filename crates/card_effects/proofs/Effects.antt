@@ -200,7 +200,7 @@ module _ (changes : List Change) (card : CardState) (c : CommandValue) where
   none_past : (channels : List ChannelState) (n : ℕ) → position (has_number n) channels ≡ None → length channels ≤ position_or_len (has_number n) channels
   none_past channels n h = grind arith
 
-  none_found : (channels : List ChannelState) (n : ℕ) → position (has_number n) channels ≡ None → find (has_number n) channels ≡ None
+  pub none_found : (channels : List ChannelState) (n : ℕ) → position (has_number n) channels ≡ None → find (has_number n) channels ≡ None
   none_found channels n h = find_at (has_number n) channels ∙ slice_get_past channels (position_or_len (has_number n) channels) (none_past channels n h)
 
   none_basic : (kind : ClassKind) (number : ℕ) → channel_of c.class ≡ Some (kind, number) → channel_place number card ≡ None → selects_on_basic c ≡ true → basic card ≡ None
