@@ -84,7 +84,7 @@ module _ (changes : List Change) (card : CardState) (kind : ClassKind) (number p
   row_effect Fetch e h = elim (fetch_does changes card c) [ inl r ↦ refused_quiet changes card c _ _ e refl refl refl r | inr d ↦ hands_over e d ]
   row_effect TerminalResponse e h = others_quiet changes card c _ terminal_response_ins e refl refl refl refl (response_keeps changes card c)
 
--- ---- what was waiting makes unlike difference
+-- ---- what was waiting makes no difference
 
 module _ (changes : List Change) (card : CardState) (c : CommandValue) (p : CardState × ResponseValue) where
   same_keeps : Keeps (with_waiting card None) p → Keeps card p

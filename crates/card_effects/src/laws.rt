@@ -1,5 +1,6 @@
 // Laws of the card's step, each the contract of a function that does nothing.
-ghost use Rattle.card_effects.specs.Laws.{HasEffect, HasBasicEffect, HasNumbersEffect, SparesOthers, KeepsApplications, KeepsFine};
+ghost use Rattle.card_effects.specs.Laws.{HasEffect, HasBasicEffect, HasNumbersEffect};
+ghost use Rattle.card_effects.specs.Laws.{SparesOthers, KeepsApplications, KeepsFine};
 
 /// What a command does to a card, and how the card answers, is one of eleven effects.
 pub fn command_has_effect()
@@ -11,7 +12,8 @@ pub fn basic_channel_is_selected()
     ensures { HasBasicEffect }
 {}
 
-/// A channel is opened or closed by a MANAGE CHANNEL that was done alone; never the basic one, and none twice.
+/// A MANAGE CHANNEL that was done opens or closes a channel, never the basic one, and nothing else does. No number
+/// comes to be open twice.
 pub fn channels_are_managed()
     ensures { HasNumbersEffect }
 {}
