@@ -1,5 +1,5 @@
 -- Steps of two calls, one behind the other.
-use Rattle.std.proofs.Common.{◌≡◌, ℕ, ◌==◌, ◌&&◌, Bool, true, false, List, [], ◌∷◌, ◌++◌, length, drop, suc, ◌+◌, ◌<◌, ◌≤◌, arith, Option, Some, None, unwrap_or, option_map, IfSome, IfErr, ◌-◌, not, nat_lt, if◌then◌else◌, Result, Ok, Err, refl, sym, ap, ◌∙◌, subst, true≢false, eq-eqb}
+use Rattle.std.proofs.Common.{◌≡◌, ℕ, ◌==◌, ◌&&◌, Bool, true, false, List, [], ◌∷◌, ◌++◌, length, suc, ◌+◌, ◌<◌, ◌≤◌, arith, Option, Some, None, unwrap_or, option_map, IfSome, IfErr, ◌-◌, not, nat_lt, if◌then◌else◌, Result, Ok, Err, refl, sym, ap, ◌∙◌, subst, true≢false, eq-eqb}
 use Rattle.std.specs.Prelude.{slice_get}
 use Rattle.std.proofs.Math.Seq.{drop-append_seam}
 use Rattle.std.proofs.lemmas.Bool.{ltb-false}
@@ -14,7 +14,7 @@ use Rattle.link.specs.Commands.{most_exchanges, continued, count_of, chain_count
 use Rattle.card_model.specs.declared.trail.Step.{Step}
 use Rattle.link.specs.declared.chain.Chain.{Chain}
 use Rattle.link.specs.declared.exchanges.LinkError.{LinkError}
-use Rattle.link.specs.Exchanges.{Grows, Ends, IfLoop, last_answer, added, answer_to, file_exchanged, chain_of, answer_of, exchanged, selection_by, selection_over, Seen, Exchanges, Plays}
+use Rattle.link.specs.Exchanges.{Grows, Ends, IfLoop, last_answer, added, answer_to, file_exchanged, chain_of, answer_of, exchanged, selection_by, selection_over, Seen, Plays}
 
 -- ---- a command is what it is
 
