@@ -7,6 +7,7 @@ mod lists;
 mod past;
 mod refresh;
 mod touch;
+mod versions;
 
 pub use cached::{CachedFile, CachedFiles, Touch, Written};
 pub use files::{
@@ -16,3 +17,4 @@ pub use files::{
 pub use past::Past;
 pub use refresh::{asks_reset, handed_refresh, is_moved_by, is_refreshed};
 pub use touch::is_update;
+pub use versions::Versions;
