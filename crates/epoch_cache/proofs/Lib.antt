@@ -1,1 +1,2 @@
 pub mod EachItem
+pub mod Placed

@@ -66,9 +66,10 @@ impl Versions {
         requires { spec.version_of path.now self.old + 1 < 2 ^ 128 }
         ensures { self.new ≡ spec.raised_at path.now self.old }
     {
-        if let Some(version) = self.by_path.get_mut(&key_of(path)) {
-            *version += 1;
-        }
+        let Some(version) = self.by_path.get_mut(&key_of(path)) else {
+            return;
+        };
+        *version += 1;
     }
 
     /// Raises every version.
