@@ -1,6 +1,7 @@
 //! The files whose rows are current, what moves them, and the epochs of a run.
 #![tactic(auto)]
 
+mod cache;
 mod cached;
 mod files;
 mod lists;
@@ -9,6 +10,7 @@ mod refresh;
 mod touch;
 mod versions;
 
+pub use cache::Cache;
 pub use cached::{CachedFile, CachedFiles, Touch, Written};
 pub use files::{
     all_current, exchange_files, first_missing, forget_file, forget_moved, is_current, is_row_of,
