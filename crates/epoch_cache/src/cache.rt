@@ -52,6 +52,9 @@ impl Cache {
         ensures files { self.new.files ≡ self.old.files }
         ensures ok { OnOk result (self.new.places ≡ spec.with_place path.now self.old.places) }
         ensures err { OnErr result (self.new ≡ self.old) }
+        ensures bound {
+            spec.highest_version self.new.places ≡ spec.highest_version self.old.places
+        }
     {
         self.versions.track(path)
     }
@@ -81,6 +84,9 @@ impl Cache {
         }
         ensures others { OnOk result (KeepsOthers path.now self.old.files self.new.files) }
         ensures err { OnErr result (self.new.files ≡ self.old.files) }
+        ensures bound {
+            spec.highest_version self.new.places ≡ spec.highest_version self.old.places
+        }
     {
         self.versions.track(path)?;
         let file = CachedFile {

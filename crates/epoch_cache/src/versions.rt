@@ -53,6 +53,7 @@ impl Versions {
     pub fn track(&mut self, path: &Path) -> Result<(), Memory>
         ensures ok { OnOk result (self.new ≡ spec.with_place path.now self.old) }
         ensures err { OnErr result (self.new ≡ self.old) }
+        ensures bound { spec.highest_version self.new ≡ spec.highest_version self.old }
     {
         let key = key_of(path);
         if !self.by_path.contains_key(&key) {
@@ -63,8 +64,9 @@ impl Versions {
 
     /// Raises the version of a path, where it has a place.
     pub fn raise(&mut self, path: &Path)
-        requires { spec.version_of path.now self.old + 1 < 2 ^ 128 }
-        ensures { self.new ≡ spec.raised_at path.now self.old }
+        requires { spec.highest_version self.old + 1 < 2 ^ 128 }
+        ensures value { self.new ≡ spec.raised_at path.now self.old }
+        ensures bound { spec.highest_version self.new ≤ spec.highest_version self.old + 1 }
     {
         let Some(version) = self.by_path.get_mut(&key_of(path)) else {
             return;
@@ -75,7 +77,8 @@ impl Versions {
     /// Raises every version.
     pub fn raise_all(&mut self)
         requires { spec.highest_version self.old + 1 < 2 ^ 128 }
-        ensures { self.new ≡ spec.all_raised self.old }
+        ensures value { self.new ≡ spec.all_raised self.old }
+        ensures bound { spec.highest_version self.new ≤ spec.highest_version self.old + 1 }
     {
         for i in 0..self.by_path.len() {
             self.by_path[i] += 1;
