@@ -1,2 +1,4 @@
 pub mod Cache
+pub mod Past
 pub mod Places
+pub mod Sessions
