@@ -2,3 +2,4 @@ pub mod Cache
 pub mod Past
 pub mod Places
 pub mod Sessions
+pub mod Store
