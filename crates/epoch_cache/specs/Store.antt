@@ -51,6 +51,8 @@ abbrev pub history_events : List Entry → List ℕ → List Event
 history_events entries bytes = reverse (stored_events entries bytes)
 
 -- the bytes are those of the entries, what is kept is that of the events, and the lists have the room that is told
-abbrev pub IsHistory : Room Entry → Room ℕ → Past → ℕ → ℕ → Type 0
-IsHistory entries bytes past spare_events spare_bytes =
-    (length bytes.items ≡ stored_length entries.items) × (past ≡ past_of (history_events entries.items bytes.items)) × (spare_events ≤ entries.spare) × (spare_bytes ≤ bytes.spare)
+pub record IsHistory (entries : Room Entry) (bytes : Room ℕ) (past : Past) (spare_events spare_bytes : ℕ) : Type 0 where
+  pub whole : length bytes.items ≡ stored_length entries.items
+  pub kept : past ≡ past_of (history_events entries.items bytes.items)
+  pub room_for_events : spare_events ≤ entries.spare
+  pub room_for_bytes : spare_bytes ≤ bytes.spare
