@@ -54,8 +54,8 @@ stored_push (x ∷ xs) bytes more e whole fits =
     let back : drop (entry_length x) (bytes ++ more) ≡ drop (entry_length x) bytes ++ more = drop-append-le (entry_length x) bytes more (omega (arith, whole)) in
     let rest = stored_push xs (drop (entry_length x) bytes) more e (omega (arith, length-drop (entry_length x) bytes, whole)) fits in
     ap (λ bs. stored_event x bs ∷ stored_events (xs ++ e ∷ []) (drop (entry_length x) (bytes ++ more))) front
-      ∙ ap (λ bs. stored_event x (take (entry_length x) bytes) ∷ stored_events (xs ++ e ∷ []) bs) back
-      ∙ ap (λ es. stored_event x (take (entry_length x) bytes) ∷ es) rest
+    ∙ ap (λ bs. stored_event x (take (entry_length x) bytes) ∷ stored_events (xs ++ e ∷ []) bs) back
+    ∙ ap (λ es. stored_event x (take (entry_length x) bytes) ∷ es) rest
 
 pub history_push : (entries : List Entry) (bytes more : List ℕ) (e : Entry) → length bytes ≡ stored_length entries → entry_length e ≡ length more
     → history_events (entries ++ e ∷ []) (bytes ++ more) ≡ stored_event e more ∷ history_events entries bytes
@@ -76,7 +76,7 @@ pub answered_back : (actor n m : ℕ) (s : Step) (r : ResponseValue) (written an
 answered_back actor n m s r written answered is len value given inverse back =
     let bytes : command_bytes s.command ++ outcome_bytes s.outcome ≡ written ++ answered = ap (λ o. command_bytes s.command ++ outcome_bytes o) is ∙ ap (λ w. w ++ response_bytes r) (sym value) ∙ ap (λ w. written ++ w) (sym given) in
     let whole : stored_event (entry.Answered actor n m) (written ++ answered) ≡ event.Exchange actor s =
-      ap (λ c. event.Exchange actor (record { command = c; outcome = Ok (stored_response (drop n (written ++ answered))) })) (command_back s.command written answered n len inverse)
-        ∙ ap (λ o. event.Exchange actor (record { command = s.command; outcome = Ok o })) (response_back r written answered n len back)
-        ∙ ap (λ o. event.Exchange actor (record { command = s.command; outcome = o })) (sym is) in
+    ap (λ c. event.Exchange actor (record { command = c; outcome = Ok (stored_response (drop n (written ++ answered))) })) (command_back s.command written answered n len inverse)
+    ∙ ap (λ o. event.Exchange actor (record { command = s.command; outcome = Ok o })) (response_back r written answered n len back)
+    ∙ ap (λ o. event.Exchange actor (record { command = s.command; outcome = o })) (sym is) in
     ap (stored_event (entry.Answered actor n m)) bytes ∙ whole

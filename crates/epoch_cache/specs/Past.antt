@@ -8,6 +8,7 @@ use Rattle.std.specs.Prelude.{ℕ, ◌+◌, ◌%◌, ◌==◌, ◌&&◌, ◌||�
 use Rattle.apdu.specs.Values.{CommandValue, ResponseValue}
 use Rattle.apdu.specs.Apdu.{fetch_ins, is_announcement, command_bytes, response_bytes}
 use Rattle.card_model.specs.declared.slot.SlotFault.{SlotFault}
+use Rattle.card_model.specs.declared.trail.Step.{Step}
 use Rattle.card_model.specs.declared.world.WorldEvent.{WorldEvent}
 use Rattle.card_model.specs.declared.world.WorldEvent.TheVariants as world_event
 use Rattle.epoch_cache.specs.declared.event.Event.{Event}
@@ -110,7 +111,10 @@ outcome_bytes (Ok r) = response_bytes r
 outcome_bytes (Err fault) = []
 
 -- the bytes of its command and of its response
+abbrev pub step_bytes : Step → List ℕ
+step_bytes step = command_bytes step.command ++ outcome_bytes step.outcome
+
 abbrev pub event_bytes : Event → List ℕ
-event_bytes (event.Exchange actor step) = command_bytes step.command ++ outcome_bytes step.outcome
+event_bytes (event.Exchange actor step) = step_bytes step
 event_bytes (event.Reset actor ok) = []
 event_bytes (event.World actor e) = []

@@ -157,7 +157,8 @@ pub fn write_files(
     files: &mut CachedFiles,
     written: Written,
 )
-    ensures { files.new ≡ spec.written_files (option_copied selected.entry) command.now files.old written }
+    ensures { files.new
+        ≡ spec.written_files (option_copied selected.entry) command.now files.old written }
 {
     match written {
         Written::Nothing | Written::Raw => {}

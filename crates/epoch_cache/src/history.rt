@@ -62,9 +62,8 @@ impl History {
         requires bytes { length (event_bytes event.now) ≤ self.old.spare_bytes }
         ensures events { self.new.events ≡ event.now ∷ self.old.events }
         ensures spare_events { self.new.spare_events + 1 ≡ self.old.spare_events }
-        ensures spare_bytes {
-            self.new.spare_bytes + length (event_bytes event.now) ≡ self.old.spare_bytes
-        }
+        ensures spare_bytes { self.new.spare_bytes + length (event_bytes event.now)
+            ≡ self.old.spare_bytes }
     {
         let before = self.bytes.len();
         let entry = store(event, &mut self.bytes);
@@ -105,10 +104,8 @@ impl History {
 
     /// The last status 91XX of the living epoch since its last FETCH.
     pub fn announced(&self) -> Option<Sw>
-        ensures {
-            option_map (λ sw. sw.0) result
-                ≡ option_map (λ low. 0x9100 + low) (past_of self.now.events).announced
-        }
+        ensures { option_map (λ sw. sw.0) result
+            ≡ option_map (λ low. 0x9100 + low) (past_of self.now.events).announced }
     {
         self.past.announced.map(|low| Sw(0x9100 + low as u16))
     }

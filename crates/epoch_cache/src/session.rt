@@ -67,7 +67,8 @@ fn has_session(key: u8, sessions: &[PinSession], epoch: u64) -> bool
 /// Whether these sessions give in this epoch what an access asks for. What is never allowed is left to the card to refuse.
 pub fn allowed(need: &Need, sessions: &[PinSession], epoch: u64) -> Result<(), NeedsPin>
     ensures ok { OnOk result (spec.missing_key need.now sessions.now epoch ≡ None) }
-    ensures needs { IfErr result (λ error. spec.missing_key need.now sessions.now epoch ≡ Some error.0) }
+    ensures needs { IfErr result (λ error.
+        spec.missing_key need.now sessions.now epoch ≡ Some error.0) }
 {
     match *need {
         Need::Key(key) => {

@@ -1,11 +1,10 @@
 // How the events of a history are stored.
-ghost use Rattle.std.specs.Prelude.{◌≡◌, ◌+◌, ◌≤◌, ◌++◌, length, Ok};
-ghost use Rattle.apdu.specs.Apdu.{command_bytes, read_command};
-ghost use Rattle.epoch_cache.specs.Past.{event_bytes};
+ghost use Rattle.std.specs.Prelude.{◌≡◌, ◌+◌, ◌≤◌, ◌++◌, length};
+ghost use Rattle.epoch_cache.specs.Past.{event_bytes, step_bytes};
 ghost use Rattle.epoch_cache.specs.Store as spec;
 
 use crate::Event;
-use apdu::{Command, Reserved, Response};
+use apdu::Reserved;
 use card_model::{Step, WorldEvent};
 
 /// An event without its bytes, which stand in a list of their own.
@@ -31,11 +30,11 @@ pub enum Entry {
 }
 
 fn store_step(actor: u8, step: &Step, bytes: &mut Reserved<u8>) -> Entry
-    requires { length (event_bytes (Event.Exchange actor step.now)) ≤ bytes.old.spare }
-    ensures bytes { bytes.new.items ≡ bytes.old.items ++ event_bytes (Event.Exchange actor step.now) }
-    ensures spare { bytes.old.spare ≤ bytes.new.spare + length (event_bytes (Event.Exchange actor step.now)) }
-    ensures event { spec.stored_event result (event_bytes (Event.Exchange actor step.now)) ≡ Event.Exchange actor step.now }
-    ensures length { spec.entry_length result ≡ length (event_bytes (Event.Exchange actor step.now)) }
+    requires { length (step_bytes step.now) ≤ bytes.old.spare }
+    ensures bytes { bytes.new.items ≡ bytes.old.items ++ step_bytes step.now }
+    ensures spare { bytes.old.spare ≤ bytes.new.spare + length (step_bytes step.now) }
+    ensures event { spec.stored_event result (step_bytes step.now) ≡ Event.Exchange actor step.now }
+    ensures length { spec.entry_length result ≡ length (step_bytes step.now) }
 {
     let command = step.command.write();
     bytes.extend_within(command.as_slice());
