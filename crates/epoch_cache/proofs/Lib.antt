@@ -1,0 +1,4 @@
+pub mod EachItem
+pub mod LookUps
+pub mod Placed
+pub mod Stored
