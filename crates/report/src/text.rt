@@ -209,12 +209,7 @@ fn put_look(alloc: Global, out: &mut String, seen: &Seen) -> Result<(), Memory>
     put_shown(alloc, out, seen.shown.as_slice())
 }
 
-fn put_notices(
-    alloc: Global,
-    out: &mut String,
-    dropped: u64,
-    numbers: &[u64],
-) -> Result<(), Memory>
+fn put_notices(alloc: Global, out: &mut String, dropped: u64, numbers: &[u64]) -> Result<(), Memory>
     ensures { OnOk result (spec.Puts out.old out.new (spec.notices_text dropped numbers.now)) }
 {
     put_one(alloc, out, " notices", dropped)?;
