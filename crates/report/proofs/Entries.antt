@@ -1,9 +1,9 @@
 -- Lines are read back from their entries, and stay when further bytes and entries are put behind.
-use Rattle.std.proofs.Common.{◌≡◌, ◌<◌, ◌≤◌, ◌+◌, ◌-◌, ℕ, zero, suc, Bool, true, false, List, [], ◌∷◌, ◌++◌, length, take, drop, take_all, length-append, length-drop, Option, Some, None, Result, Ok, Err, refl, sym, ap, subst, ◌∙◌, arith, get_or, slice_get, true≢false}
-use Rattle.std.specs.Prelude.{map, reverse, nat_lt, option_map, unwrap_or, IsUtf8}
+use Rattle.std.proofs.Common.{◌≡◌, ◌≤◌, ◌+◌, ℕ, suc, true, false, List, [], ◌∷◌, ◌++◌, length, take, drop, take_all, length-append, length-drop, Option, Some, None, Ok, refl, ap, subst, ◌∙◌, arith, get_or, slice_get}
+use Rattle.std.specs.Prelude.{map, reverse, nat_lt, unwrap_or, IsUtf8}
 use Rattle.std.specs.Str.{is_utf8}
 use Rattle.std.specs.List.{All}
-use Rattle.std.proofs.lemmas.List.{take-append-le, drop-append-le, map-append, reverse-append, reverse-reverse, length-map, length-reverse}
+use Rattle.std.proofs.lemmas.List.{take-append-le, drop-append-le, map-append, reverse-append, reverse-reverse}
 use Rattle.std.proofs.lemmas.List.Elements.{All-append}
 use Rattle.std.proofs.lemmas.Option.{slice_get-map, slice_get_within, get_or_from_slice_get}
 use Rattle.std.proofs.Math.Seq.{drop-append_seam, take-append_seam}

@@ -1,5 +1,5 @@
 -- The text of the lines up to one is that of the lines before it, and its own.
-use Rattle.std.proofs.Common.{◌≡◌, ◌<◌, ◌+◌, ℕ, List, [], ◌∷◌, ◌++◌, length, take, refl, sym, ap, ◌∙◌, append_assoc, arith, get_or, slice_get, append-nil, string_bytes}
+use Rattle.std.proofs.Common.{◌≡◌, ◌<◌, ◌+◌, ℕ, List, ◌++◌, length, take, refl, sym, ap, ◌∙◌, append_assoc, arith, get_or, slice_get, append-nil, string_bytes}
 use Rattle.std.specs.Prelude.{reverse, flat_map, String}
 use Rattle.std.specs.Option.{option_to_list}
 use Rattle.std.specs.declared.alloc.Global.{Global}

@@ -1,8 +1,6 @@
 -- Numbers are read back from their bytes.
-use Rattle.std.proofs.Common.{◌≡◌, ◌<◌, ◌≤◌, ◌+◌, ◌*◌, ◌^◌, ◌-◌, ℕ, zero, suc, Bool, true, false, List, [], ◌∷◌, ◌++◌, length, take, drop, take_all, append_assoc, append-nil, Option, Some, None, IfSome, refl, sym, ap, ◌∙◌, arith, get_or}
-use Rattle.std.specs.Prelude.{nat_le, flat_map}
-use Rattle.std.specs.List.{All}
-use Rattle.std.specs.Int.{w64, to_be_bytes, from_be_bytes}
+use Rattle.std.proofs.Common.{◌≡◌, ◌<◌, ◌≤◌, ◌+◌, ◌*◌, ◌^◌, ◌-◌, ℕ, suc, List, [], ◌∷◌, ◌++◌, length, take, drop, take_all, append_assoc, append-nil, Option, Some, None, IfSome, refl, sym, ap, ◌∙◌, arith, get_or}
+use Rattle.std.specs.Int.{w64, from_be_bytes}
 use Rattle.std.proofs.lemmas.Nat.{from_be_bytes-to_be_bytes_8}
 use Rattle.report.specs.Kept.{numbers_bytes, place_bytes, shown_bytes, words_of, place_of, places_of, up_to, numbers_of, shown_of}
 

@@ -1,4 +1,4 @@
-use Rattle.std.proofs.Common.{arith, sym, subst, ◌<◌}
+use Rattle.std.proofs.Common.{arith}
 use Rattle.report.proofs.Ordered.{one_more}
 use Rattle.report.proofs.text.put_lines.Goals as goal
 
