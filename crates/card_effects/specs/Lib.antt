@@ -1,0 +1,5 @@
+pub mod Effect
+pub mod Basic
+pub mod Touched
+pub mod Fine
+pub mod Laws
