@@ -11,3 +11,17 @@ mod Looking
 mod CurrentPaths
 mod HandlesAndSessions
 mod SeenBefore
+mod Worlds
+mod Selected
+mod Chains
+mod Truth
+mod Further
+mod Complete
+mod Readings
+mod Spared
+mod Current
+mod Missing
+mod Exchanged
+mod Scripts
+mod Sound
+mod Told
