@@ -158,6 +158,7 @@ module _ (changes : List Change) (card : CardState) (c : CommandValue) (p : Card
         channel = w.channel;
         found = l.behind ∙ w.found;
         number = w.number;
+        asks = w.asks;
         waiting = still_waits i w e ∙ ap (λ bytes. Some (waiting_on bytes)) (sym (parameters_same card p.0 w.channel k.files k.aids));
         named = λ q. let n = w.named q in record { path = n.path; is_selected = same ∙ n.is_selected; named = n.named };
       }
@@ -198,6 +199,7 @@ module _ (changes : List Change) (card : CardState) (c : CommandValue) (p : Card
         channel = selecting d.channel d.does.app d.does.current;
         found = d.behind;
         number = d.number;
+        asks = same.p2 ∙ (d.does.more h).0;
         waiting = m ∙ ap (λ k. Some (waiting_with k (current_parameters card (selecting d.channel d.does.app d.does.current)))) d.number ∙ ap (λ bytes. Some (waiting_with 0 bytes)) (sym (parameters_same card p.0 (selecting d.channel d.does.app d.does.current) d.does.files d.does.aids));
         named = λ q.
             let q2 : (c.p1 == 0x08) ≡ true = ap (λ x. x == 0x08) (sym same.p1) ∙ q in

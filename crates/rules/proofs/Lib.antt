@@ -23,5 +23,9 @@ mod Current
 mod Missing
 mod Exchanged
 mod Scripts
+mod Started
 mod Sound
 mod Told
+mod Wellformed
+mod Planned
+mod Agree

@@ -41,17 +41,18 @@ use Rattle.rules.proofs.Truth.{FineCard}
 use Rattle.rules.proofs.Readings.{filter_true}
 use Rattle.rules.proofs.Current.{forgotten_true, unspoiled_true}
 use Rattle.rules.proofs.Missing.{no_file_true}
+use Rattle.rules.proofs.Started.{started_same, started_step}
 use Rattle.rules.proofs.Exchanged.{jobs_map, jobs_change, FinalTied, final_tied, beside_true, own_true, files_true}
 
 -- ---- an epoch's border: nothing is kept
 
-abbrev beginning : Touch
+abbrev pub beginning : Touch
 beginning = touch_of false None (line.Reset 0)
 
-abbrev quiet_touch : Touch
+abbrev pub quiet_touch : Touch
 quiet_touch = touch_of false None (line.Turn 0)
 
-forgotten_all : (files : List CachedFile) → forgotten beginning files ≡ []
+pub forgotten_all : (files : List CachedFile) → forgotten beginning files ≡ []
 forgotten_all [] = refl
 forgotten_all (file ∷ files) = forgotten_all files
 
@@ -93,7 +94,6 @@ pub record FineWorld (w : World) : Type 0 where
 pub record FineLine (s : Script) (w : World) (l : Line) (k : Kept) : Type 0 where
   pub before : FineWorld w
   pub behind : FineWorld (world_after l w)
-  pub started : is_started k.startup ≡ true → (card : CardState) → card_inside w ≡ Some card → IsStarted card
 
 abbrev pub FineLines : Script → List Line → Type 0
 FineLines s [] = Unit {0}
@@ -142,8 +142,9 @@ module _ (s : Script) (w : World) (a : ℕ) (c : CommandValue) (k : Kept) (card 
   exchange_tied = record {
     selected = selected_step card c p (effect_aids w.changes card c p does) k.selected (basic_effect card c p w.changes does) t.selected;
     chain = chain_tied w.changes card c p does k.selected k.chain t.chain;
-    files = files_true w.changes card c p does fine.before.changes fine_card fine_new k.selected t.selected raw (is_started k.startup) facts.answered final_is beside besides_before k.files t.files (λ f h n. let q = subst (λ (o : Option Final). FinalTied card c p.1 k.selected o) h final_is in no_file_true w.changes card c p does k.selected f q.0 q.1 (is_started k.startup) (λ r. fine.started r card inside) n);
+    files = files_true w.changes card c p does fine.before.changes fine_card fine_new k.selected t.selected raw (is_started k.startup) facts.answered final_is beside besides_before k.files t.files (λ f h n. let q = subst (λ (o : Option Final). FinalTied card c p.1 k.selected o) h final_is in no_file_true w.changes card c p does k.selected f q.0 q.1 (is_started k.startup) t.started n);
     jobs = jobs_change card p.0 a (own_job s l k facts attempt) beside (λ job r u. own_true w.changes card c p does fine.before.changes fine_card fine_new k.selected t.selected raw facts.answered final_is job.readings r u) besides_before besides;
+    started = started_step w.changes card c p does k.selected facts.answered k.startup final_is t.started;
   }
 
 -- ---- every line
@@ -161,19 +162,19 @@ module _ (s : Script) (w : World) (k : Kept) (h : TiedInside w k) where
   failed_holds : (a : ℕ) (c : CommandValue) (d : Bool) → TiedInside (world_after (line.Failed a c d) w) (kept_after s (line.Failed a c d) k)
   failed_holds a c d card inside =
       let empty : JobsTrue card (besides_of (line.Failed a c d)) = stopped card (line.Failed a c d) (λ job. refl) in
-      record { selected = tt; chain = tt; files = tt; jobs = jobs_change card card a (own_of (line.Failed a c d)) (besides_of (line.Failed a c d)) (λ job r u. u) empty empty }
+      record { selected = tt; chain = tt; files = tt; started = λ q. absurd (cc); jobs = jobs_change card card a (own_of (line.Failed a c d)) (besides_of (line.Failed a c d)) (λ job r u. u) empty empty }
 
   reset_failed_holds : (a : ℕ) → TiedInside (world_after (line.ResetFailed a) w) (kept_after s (line.ResetFailed a) k)
-  reset_failed_holds a card inside = record { selected = tt; chain = tt; files = tt; jobs = stopped card (line.ResetFailed a) (λ job. refl) }
+  reset_failed_holds a card inside = record { selected = tt; chain = tt; files = tt; started = λ q. absurd (cc); jobs = stopped card (line.ResetFailed a) (λ job. refl) }
 
   out_holds : (a : ℕ) → TiedInside (world_after (line.World a Out) w) (kept_after s (line.World a Out) k)
-  out_holds a card inside = record { selected = tt; chain = tt; files = tt; jobs = stopped card (line.World a Out) (λ job. refl) }
+  out_holds a card inside = record { selected = tt; chain = tt; files = tt; started = λ q. absurd (cc); jobs = stopped card (line.World a Out) (λ job. refl) }
 
   reset_holds : (a : ℕ) → TiedInside (world_after (line.Reset a) w) (kept_after s (line.Reset a) k)
-  reset_holds a card inside = record { selected = tt; chain = tt; files = subst (λ (x : List CachedFile). FilesTrue card x) (sym (forgotten_all k.files)) tt; jobs = stopped card (line.Reset a) (λ job. unspoiled_all k.selected job.readings) }
+  reset_holds a card inside = record { selected = tt; chain = tt; files = subst (λ (x : List CachedFile). FilesTrue card x) (sym (forgotten_all k.files)) tt; started = λ q. absurd (cc); jobs = stopped card (line.Reset a) (λ job. unspoiled_all k.selected job.readings) }
 
   inserted_holds : (a j : ℕ) → TiedInside (world_after (line.World a (Insert j)) w) (kept_after s (line.World a (Insert j)) k)
-  inserted_holds a j card inside = record { selected = tt; chain = tt; files = subst (λ (x : List CachedFile). FilesTrue card x) (sym (forgotten_all k.files)) tt; jobs = stopped card (line.World a (Insert j)) (λ job. unspoiled_all k.selected job.readings) }
+  inserted_holds a j card inside = record { selected = tt; chain = tt; files = subst (λ (x : List CachedFile). FilesTrue card x) (sym (forgotten_all k.files)) tt; started = λ q. absurd (cc); jobs = stopped card (line.World a (Insert j)) (λ job. unspoiled_all k.selected job.readings) }
 
   -- a line that moves nothing, on a card with the same files
   quiet_jobs : (old new : CardState) → Alike old new → (l : Line) → ((job : Job) → (job_beside l k.history.epoch (facts_of s l k) k.selected job).readings ≡ unspoiled quiet_touch k.selected job.readings) → JobsTrue old k.jobs → JobsTrue new (besides_of l)
@@ -188,29 +189,29 @@ module _ (s : Script) (w : World) (k : Kept) (h : TiedInside w k) where
   arm_holds a i card inside =
       let q = arm_alike w i card inside in
       let t = h q.0 q.1 in
-      record { selected = quiet_selected q.0 card q.2 k.selected t.selected; chain = tt; files = quiet_files q.0 card q.2 k.files t.files; jobs = quiet_jobs q.0 card q.2 (line.World a (Arm i)) (λ job. refl) t.jobs }
+      record { selected = quiet_selected q.0 card q.2 k.selected t.selected; started = λ r. started_same q.0 card q.2.aids (basic_alike q.0 card q.2) (t.started r); chain = tt; files = quiet_files q.0 card q.2 k.files t.files; jobs = quiet_jobs q.0 card q.2 (line.World a (Arm i)) (λ job. refl) t.jobs }
 
   turn_own : (a : ℕ) (card : CardState) (job : Job) → ReadingsTrue card job.readings → ReadingsTrue card (own_of (line.Turn a) job).readings
   turn_own zero card job r = marked_true card (family_read k) job r
   turn_own (suc a) card job r = r
 
   turn_holds : (a : ℕ) → TiedInside w (kept_after s (line.Turn a) k)
-  turn_holds a card inside = let t = h card inside in record { selected = t.selected; chain = tt; files = quiet_files card card (itself_alike card) k.files t.files; jobs = quiet_own card (line.Turn a) a (λ job. refl) (turn_own a card) t.jobs }
+  turn_holds a card inside = let t = h card inside in record { selected = t.selected; started = t.started; chain = tt; files = quiet_files card card (itself_alike card) k.files t.files; jobs = quiet_own card (line.Turn a) a (λ job. refl) (turn_own a card) t.jobs }
 
   begin_holds : (a i : ℕ) → TiedInside w (kept_after s (line.Begin a i) k)
-  begin_holds a i card inside = let t = h card inside in record { selected = t.selected; chain = tt; files = quiet_files card card (itself_alike card) k.files t.files; jobs = quiet_own card (line.Begin a i) a (λ job. refl) (λ job r. tt) t.jobs }
+  begin_holds a i card inside = let t = h card inside in record { selected = t.selected; started = t.started; chain = tt; files = quiet_files card card (itself_alike card) k.files t.files; jobs = quiet_own card (line.Begin a i) a (λ job. refl) (λ job r. tt) t.jobs }
 
   published_holds : (n f e v : ℕ) (text : List ℕ) → TiedInside w (kept_after s (line.Published n f e v text) k)
-  published_holds n f e v text card inside = let t = h card inside in record { selected = t.selected; chain = tt; files = quiet_files card card (itself_alike card) k.files t.files; jobs = quiet_jobs card card (itself_alike card) (line.Published n f e v text) (λ job. refl) t.jobs }
+  published_holds n f e v text card inside = let t = h card inside in record { selected = t.selected; started = t.started; chain = tt; files = quiet_files card card (itself_alike card) k.files t.files; jobs = quiet_jobs card card (itself_alike card) (line.Published n f e v text) (λ job. refl) t.jobs }
 
   epoch_end_holds : (n e v : ℕ) → TiedInside w (kept_after s (line.EpochEnd n e v) k)
-  epoch_end_holds n e v card inside = let t = h card inside in record { selected = t.selected; chain = tt; files = quiet_files card card (itself_alike card) k.files t.files; jobs = quiet_jobs card card (itself_alike card) (line.EpochEnd n e v) (λ job. refl) t.jobs }
+  epoch_end_holds n e v card inside = let t = h card inside in record { selected = t.selected; started = t.started; chain = tt; files = quiet_files card card (itself_alike card) k.files t.files; jobs = quiet_jobs card card (itself_alike card) (line.EpochEnd n e v) (λ job. refl) t.jobs }
 
   refused_holds : (f n : ℕ) → TiedInside w (kept_after s (line.Refused f n) k)
-  refused_holds f n card inside = let t = h card inside in record { selected = t.selected; chain = tt; files = quiet_files card card (itself_alike card) k.files t.files; jobs = quiet_jobs card card (itself_alike card) (line.Refused f n) (λ job. refl) t.jobs }
+  refused_holds f n card inside = let t = h card inside in record { selected = t.selected; started = t.started; chain = tt; files = quiet_files card card (itself_alike card) k.files t.files; jobs = quiet_jobs card card (itself_alike card) (line.Refused f n) (λ job. refl) t.jobs }
 
   answered_holds : (a i : ℕ) (given : Answer) → TiedInside w (kept_after s (line.Answered a i given) k)
-  answered_holds a i given card inside = let t = h card inside in record { selected = t.selected; chain = tt; files = quiet_files card card (itself_alike card) k.files t.files; jobs = quiet_own card (line.Answered a i given) a (λ job. refl) (λ job r. tt) t.jobs }
+  answered_holds a i given card inside = let t = h card inside in record { selected = t.selected; started = t.started; chain = tt; files = quiet_files card card (itself_alike card) k.files t.files; jobs = quiet_own card (line.Answered a i given) a (λ job. refl) (λ job r. tt) t.jobs }
 
 exchange_holds : (s : Script) (w : World) (k : Kept) (a : ℕ) (c : CommandValue) (r : ResponseValue) → has_right_response w (line.Exchange a c r) ≡ true → FineLine s w (line.Exchange a c r) k → TiedInside w k → TiedInside (step w c).0 (kept_after s (line.Exchange a c r) k)
 exchange_holds s w k a c r right fine h new inside =

@@ -6,19 +6,17 @@ use Rattle.card_model.specs.declared.world.World.{World}
 use Rattle.card_model.specs.Card.{rows_of}
 use Rattle.card_model.specs.Step.{card_inside}
 use Rattle.script_reader.specs.declared.types.Script.{Script}
-use Rattle.report.specs.declared.line.Line.{Line}
 use Rattle.families.specs.Families.{all_families, shown}
 use Rattle.epoch_cache.specs.declared.cached.CachedFile.{CachedFile}
 use Rattle.epoch_cache.specs.Cache.{taken, is_of}
-use Rattle.rules.specs.After.{kept_of}
+use Rattle.rules.specs.declared.kept.Kept.{Kept}
 use Rattle.rules.specs.declared.due.Due.TheVariants.{Publish as publish}
 use Rattle.rules.specs.Due.{due, kept_text}
-use Rattle.rules.specs.State.{world_of, view_in, content_on, shown_in, shown_on, same_shown}
+use Rattle.rules.specs.State.{view_in, content_on, shown_in, shown_on, same_shown}
 use Rattle.rules.specs.Laws.{Agrees}
 use Rattle.rules.proofs.Publishing.{due-text}
 use Rattle.card_effects.proofs.Same.{same_bytes_self, same_bytes_is}
-use Rattle.rules.specs.Agreement.{are_responses_right, FileTrue, FilesTrue}
-use Rattle.rules.proofs.Sound.{FineLines, sound}
+use Rattle.rules.specs.Agreement.{FileTrue, FilesTrue}
 
 taken_if : (card : CardState) (path : List ℕ) (x file : CachedFile) (rest : Option CachedFile) → FileTrue card x → (rest ≡ Some file → file.content ≡ rows_of path card) → (b : Bool) → is_of path x ≡ b → (if b then Some x else rest) ≡ Some file → file.content ≡ rows_of path card
 taken_if card path x file rest t next true e h =
@@ -35,12 +33,11 @@ pub agrees : (w : World) (card : CardState) (files : List CachedFile) → card_i
 agrees w card files inside t = record { same = λ path file h. taken_true card path files file t h ∙ ap (λ (o : Option CardState). content_on o path) (sym inside) }
 
 -- a publication that is due is what the card in the slot shows
-pub told_true : (s : Script) (lines : List Line) (f : ℕ) (card : CardState) → are_responses_right s lines ≡ true → FineLines s lines → card_inside (world_of s lines) ≡ Some card → is_one_of f all_families ≡ true → due s (kept_of s lines) ≡ publish f → same_shown (shown_in (world_of s lines) f) (Some (kept_text f (kept_of s lines))) ≡ true
-told_true s lines f card right fine inside one due_is =
-    let t = sound s lines right fine card inside in
-    let text : kept_text f (kept_of s lines) ≡ shown f (view_in (world_of s lines)) = due-text s (kept_of s lines) (world_of s lines) f (agrees (world_of s lines) card (kept_of s lines).files inside t.files) one due_is in
-    let view : shown_in (world_of s lines) f ≡ Some (shown f (content_on (Some card))) = ap (λ (o : Option CardState). shown_on o f) inside in
-    let view2 : shown f (view_in (world_of s lines)) ≡ shown f (content_on (Some card)) = ap (λ (o : Option CardState). shown f (content_on o)) inside in
-    ap (λ (o : Option (List ℕ)). same_shown o (Some (kept_text f (kept_of s lines)))) view
+pub told_true : (s : Script) (k : Kept) (w : World) (f : ℕ) (card : CardState) → card_inside w ≡ Some card → FilesTrue card k.files → is_one_of f all_families ≡ true → due s k ≡ publish f → same_shown (shown_in w f) (Some (kept_text f k)) ≡ true
+told_true s k w f card inside t one due_is =
+    let text : kept_text f k ≡ shown f (view_in w) = due-text s k w f (agrees w card k.files inside t) one due_is in
+    let view : shown_in w f ≡ Some (shown f (content_on (Some card))) = ap (λ (o : Option CardState). shown_on o f) inside in
+    let view2 : shown f (view_in w) ≡ shown f (content_on (Some card)) = ap (λ (o : Option CardState). shown f (content_on o)) inside in
+    ap (λ (o : Option (List ℕ)). same_shown o (Some (kept_text f k))) view
     ∙ ap (λ (x : List ℕ). same_shown (Some (shown f (content_on (Some card)))) (Some x)) (text ∙ view2)
     ∙ same_bytes_self (shown f (content_on (Some card)))

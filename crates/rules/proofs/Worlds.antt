@@ -11,7 +11,7 @@ use Rattle.card_model.specs.declared.world.World.{World}
 use Rattle.card_model.specs.declared.world.WorldEvent.TheVariants.{Arm}
 use Rattle.card_model.specs.Step.{on_card, card_inside, with_card, step, step_of_place, step_of_card, armed_in, armed_at, armed_card, after_event}
 
-get_set : {X : Type 0} (xs : List X) (j : ℕ) (x y : X) → slice_get xs j ≡ Some x → slice_get (slice_set xs j y) j ≡ Some y
+pub get_set : {X : Type 0} (xs : List X) (j : ℕ) (x y : X) → slice_get xs j ≡ Some x → slice_get (slice_set xs j y) j ≡ Some y
 get_set [] j x y h = absurd (cc)
 get_set (z ∷ xs) zero x y h = refl
 get_set (z ∷ xs) (suc j) x y h = get_set xs j x y h

@@ -1,8 +1,8 @@
 -- What is kept agrees with the card in the slot: its selection, the exchanges of a command, current files and readings.
-use Rattle.std.specs.Prelude.{◌≡◌, ◌⊎◌, ◌==◌, ◌&&◌, ◌||◌, ℕ, Bool, true, List, [], ◌∷◌, length, nat_lt, slice_get, Option, Some, None, option_and_then, Ok}
+use Rattle.std.specs.Prelude.{◌≡◌, ◌⊎◌, ◌==◌, ◌&&◌, ◌||◌, not, ℕ, Bool, true, List, [], ◌∷◌, length, nat_lt, slice_get, Option, Some, None, option_and_then, Ok}
 use Rattle.std.specs.List.{list_all}
 use Rattle.apdu.specs.Values.{CommandValue}
-use Rattle.apdu.specs.Words.{is_one_of, path_is_in}
+use Rattle.apdu.specs.Words.{same_bytes, is_one_of, path_is_in}
 use Rattle.apdu.specs.Apdu.{select_ins, get_response_ins, read_binary_ins}
 use Rattle.fcp.specs.declared.control.ArrRef.{ArrRef}
 use Rattle.card_model.specs.declared.world.FileState.{FileState}
@@ -10,22 +10,31 @@ use Rattle.card_model.specs.declared.world.Change.{Change}
 use Rattle.card_model.specs.declared.world.ChannelState.{ChannelState}
 use Rattle.card_model.specs.declared.world.CardState.{CardState}
 use Rattle.card_model.specs.declared.world.World.{World}
-use Rattle.card_model.specs.Card.{usim_of, file_at, file_of, rows_of, fields_of_file, current_parameters, change_command}
+use Rattle.card_model.specs.Card.{application_id, usim_of, file_at, file_of, rows_of, fields_of_file, current_parameters, change_command}
 use Rattle.refresh_cmd.specs.Proactive.{read_proactive, refresh_type, command_of}
 use Rattle.card_model.specs.Step.{card_inside}
 use Rattle.card_effects.specs.Effect.{basic, IsMisfit}
 use Rattle.card_effects.specs.Basic.{HasCurrent}
 use Rattle.card_effects.specs.Fine.{FineFiles, FineImages}
 use Rattle.card_effects.specs.Rows.{RowsTrue}
+use Rattle.script_reader.specs.declared.types.FileSpec.{FileSpec}
+use Rattle.script_reader.specs.declared.types.CardSpec.{CardSpec}
+use Rattle.script_reader.specs.declared.types.ChangeSpec.{ChangeSpec}
 use Rattle.script_reader.specs.declared.types.Script.{Script}
 use Rattle.report.specs.declared.line.Line.{Line}
+use Rattle.report.specs.declared.line.Line.TheVariants as line
+use Rattle.adn.specs.declared.edit.Edit.{Edit}
+use Rattle.families.specs.Families.{family_path, family_plan}
 use Rattle.link.specs.declared.chain.Chain.{Chain}
 use Rattle.link.specs.Commands.{is_basic_select, named_path}
 use Rattle.epoch_cache.specs.declared.cached.CachedFile.{CachedFile}
 use Rattle.loader.specs.Values.{ReadingValue}
 use Rattle.rules.specs.declared.kept.Job.{Job}
 use Rattle.rules.specs.declared.kept.Kept.{Kept}
-use Rattle.rules.specs.After.{kept_of}
+use Rattle.rules.specs.declared.edits.Attempt.{Attempt}
+use Rattle.rules.specs.Editing.{update_need, card_need}
+use Rattle.rules.specs.Kept.{operation_at, operation_now}
+use Rattle.rules.specs.After.{is_started, edit_of, kept_of}
 use Rattle.rules.specs.State.{world_of}
 use Rattle.rules.specs.Rules.{has_right_response}
 
@@ -36,7 +45,20 @@ abbrev pub are_responses_right : Script → List Line → Bool
 are_responses_right s [] = true
 are_responses_right s (l ∷ earlier) = are_responses_right s earlier && has_right_response (world_of s earlier) l
 
--- ---- what is asked of a change
+-- ---- what is asked of a script, beside that it keeps its rules
+
+-- the file does not stand at the directory of the application
+abbrev pub is_apart : FileSpec → Bool
+is_apart file = not (same_bytes file.path (application_id ∷ []))
+
+abbrev pub are_apart : List FileSpec → Bool
+are_apart files = list_all is_apart files
+
+-- nor does any file of its cards and changes
+abbrev pub has_files_apart : Script → Bool
+has_files_apart s = list_all (λ (card : CardSpec). are_apart card.files) s.cards && list_all (λ (change : ChangeSpec). are_apart change.files) s.changes
+
+-- ---- what that comes to: of a change
 
 abbrev pub tells_files : Change → Bool
 tells_files ch = is_one_of ch.qualifier (0 ∷ 4 ∷ 5 ∷ 6 ∷ []) || (nat_lt ch.qualifier 7 && list_all (λ (f : FileState). path_is_in ch.list f.path) ch.files)
@@ -50,7 +72,7 @@ pub record FineChange (ch : Change) : Type 0 where
 abbrev pub FineChanges : List Change → Type 0
 FineChanges changes = (i : ℕ) (ch : Change) → slice_get changes i ≡ Some ch → FineChange ch
 
--- ---- what is asked of a script, as the world that it begins with says it
+-- ---- and of the world that it begins with
 
 abbrev pub FineCards : List CardState → Type 0
 FineCards cards = (i : ℕ) (card : CardState) → slice_get cards i ≡ Some card → FineFiles card.files
@@ -93,6 +115,7 @@ pub record BasicWaits (card : CardState) (selected : Option (List ℕ)) (first c
   pub channel : ChannelState
   pub found : basic card ≡ Some channel
   pub number : channel.number ≡ 0
+  pub asks : first.p2 ≡ 0x04
   pub waiting : card.waiting ≡ Some (record { channel = 0; bytes = current_parameters card channel })
   pub named : (first.p1 == 0x08) ≡ true → IsNamed selected first
 
@@ -149,7 +172,22 @@ pub record Tied (card : CardState) (k : Kept) : Type 0 where
   pub chain : ChainTied card k.selected k.chain
   pub files : FilesTrue card k.files
   pub jobs : JobsTrue card k.jobs
+  pub started : is_started k.startup ≡ true → IsStarted card
 
 -- of a card that may be in the slot
 abbrev pub TiedInside : World → Kept → Type 0
 TiedInside w k = (card : CardState) → card_inside w ≡ Some card → Tied card k
+
+-- ---- the plan of an attempt
+
+-- the edit of the operation whose turn begins here
+abbrev pub edit_at : Script → Line → Kept → Option (ℕ × Edit)
+edit_at s (line.Turn a) k = edit_of (operation_now s a k.jobs)
+edit_at s (line.Begin a i) k = edit_of (operation_at s a i)
+edit_at s l k = None
+
+-- an attempt that begins here has the plan for the card, and what its updates ask for is what the card asks for
+pub record IsPlanned (card : CardState) (k : Kept) (f : ℕ) (e : Edit) (a : Attempt) : Type 0 where
+  pub plan : family_plan f e (λ path. rows_of path card) ≡ Ok a.plan
+  pub main_need : update_need k.files (family_path f 0) ≡ card_need card (family_path f 0)
+  pub extension_need : update_need k.files (family_path f 1) ≡ card_need card (family_path f 1)

@@ -12,7 +12,7 @@ use Rattle.refresh_cmd.specs.Proactive.{read_proactive, refresh_type, write_term
 use Rattle.card_model.specs.Card.{usim_aid_prefix}
 use Rattle.report.specs.declared.line.Line.{Line}
 use Rattle.report.specs.declared.line.Line.TheVariants as line
-use Rattle.rules.specs.History.{begins_epoch, is_epoch_border}
+use Rattle.rules.specs.History.{is_epoch_border}
 use Rattle.apdu.specs.Words.{has_value}
 use Rattle.link.specs.declared.chain.Final.{Final}
 use Rattle.epoch_cache.specs.Cache.{asks_reset}
@@ -56,7 +56,7 @@ startup_after c f step = if ends_step step f then step + 1 else if leaves_usim c
 
 abbrev pub startup_behind : Line → Option Final → ℕ → ℕ
 startup_behind (line.Exchange a c r) f step = startup_after c f step
-startup_behind l f step = if begins_epoch l then 0 else step
+startup_behind l f step = if is_epoch_border l then 0 else step
 
 -- ---- a TERMINAL RESPONSE
 

@@ -1,0 +1,271 @@
+-- Where an attempt begins, its plan is that for the card in the slot.
+use Rattle.std.proofs.Common.{◌≡◌, ◌⊎◌, ℕ, zero, suc, ◌-◌, ◌==◌, Bool, true, false, ◌&&◌, ◌||◌, if◌then◌else◌, Option, Some, None, List, [], ◌∷◌, ◌++◌, refl, ap, sym, ◌∙◌, subst, true≢false}
+use Rattle.std.specs.List.{filter_map, cons_option}
+use Rattle.std.specs.Prelude.{not, is_some, is_none, find, nat_lt, slice_get, option_map, option_and_then, unwrap_or, Result, Ok, Err}
+use Rattle.std.specs.List.{list_all}
+use Rattle.std.proofs.lemmas.Bool.{and_parts, and_from, eqb-true}
+use Rattle.apdu.specs.Words.{is_one_of, same_bytes}
+use Rattle.fcp.specs.Content.{Content, missing}
+use Rattle.fcp.specs.declared.control.ArrRef.{ArrRef}
+use Rattle.fcp.specs.declared.rule.Rule.{Rule}
+use Rattle.fcp.specs.declared.rule.Need.{Need}
+use Rattle.fcp.specs.declared.rule.Need.TheVariants.{Always}
+use Rattle.adn.specs.declared.edit.Edit.{Edit}
+use Rattle.adn.specs.declared.edit.Plan.{Plan}
+use Rattle.adn.specs.declared.edit.PlanError.{PlanError}
+use Rattle.card_model.specs.declared.world.FileState.{FileState}
+use Rattle.card_model.specs.declared.world.CardState.{CardState}
+use Rattle.card_model.specs.declared.world.World.{World}
+use Rattle.card_model.specs.Card.{file_at, file_of, rows_of, rule_file_path, rule_of_record, record_at, is_in_application, usim_of}
+use Rattle.card_model.specs.Step.{card_inside}
+use Rattle.card_effects.proofs.Same.{same_bytes_is}
+use Rattle.script_reader.specs.declared.types.Script.{Script}
+use Rattle.script_reader.specs.declared.types.Operation.{Operation}
+use Rattle.script_reader.specs.declared.types.Operation.TheVariants as operation
+use Rattle.report.specs.declared.line.Line.{Line}
+use Rattle.report.specs.declared.line.Line.TheVariants as line
+use Rattle.families.specs.Families.{View, all_families, family_paths, family_path, family_plan}
+use Rattle.families.specs.Plans.{plan_edit, plan_updates}
+use Rattle.epoch_cache.specs.declared.cached.CachedFile.{CachedFile}
+use Rattle.epoch_cache.specs.Cache.{is_of, taken, is_current, all_current, first_missing, view_of_files}
+use Rattle.rules.specs.declared.edits.Attempt.{Attempt}
+use Rattle.rules.specs.declared.edits.Decided.{Decided}
+use Rattle.rules.specs.declared.edits.Editing.{Editing}
+use Rattle.rules.specs.declared.kept.Begun.{Begun}
+use Rattle.rules.specs.declared.kept.Decision.{Decision}
+use Rattle.rules.specs.declared.kept.Kept.{Kept}
+use Rattle.rules.specs.declared.kept.Work.TheVariants.{Rests as rests, Refuses as refuses, Lacks as lacks, Reads as reads, Writes as writes}
+use Rattle.rules.specs.History.{lives_in}
+use Rattle.rules.specs.Kept.{begun_of, operation_now, operation_at}
+use Rattle.rules.specs.Editing.{rule_path, path_of_rule, edit_paths, planned, first_lack, row_from_one, need_by_rule, need_of_taken, update_need, need_of_file, card_need}
+use Rattle.rules.specs.Work.{work_of_operation, decides, begins_plan, plans, goes_on, attempts, undecided_work, decided_work, edit_work, work_of_edit}
+use Rattle.rules.specs.After.{edit_of, fresh_begun, decision_of_begun, decision_at}
+use Rattle.rules.specs.Agreement.{FileTrue, FilesTrue, arr_at, edit_at, IsPlanned}
+use Rattle.rules.specs.Laws.{Agrees}
+use Rattle.rules.proofs.Publishing.{current-agrees}
+use Rattle.rules.proofs.Truth.{found_path, find_passes}
+
+-- ---- what a decision stands on
+
+-- the plan is that for the files as they are kept, which are all current
+record PlansKept (k : Kept) (f : ℕ) (e : Edit) (a : Attempt) : Type 0 where
+  plan : family_plan f e (view_of_files k.files) ≡ Ok a.plan
+  current : first_missing k.files (edit_paths k.files f) ≡ None
+
+abbrev made : Plan → Result Plan PlanError
+made plan = Ok plan
+
+abbrev Begins : Decision → Attempt → Type 0
+Begins d a = d.attempt ≡ Some a
+
+abbrev begins_with : ℕ → Plan → List (List ℕ) → Decision
+begins_with f plan paths = record { work = writes; attempt = Some (planned f plan paths) }
+
+module _ (k : Kept) (f : ℕ) (e : Edit) (a : Attempt) where
+  begins : (plan : Plan) (paths : List (List ℕ)) (o : Option ℕ) → Begins (elim o [ Some key ↦ decides (lacks key) | None ↦ begins_with f plan paths ]) a → plan ≡ a.plan
+  begins plan paths (Some key) h = absurd (cc)
+  begins plan paths None h = let same : planned f plan paths ≡ a = cc in ap (λ (x : Attempt). x.plan) same
+
+  planned_by : (actor : ℕ) (paths : List (List ℕ)) (r : Result Plan PlanError) → Begins (elim r [ Err refusal ↦ decides (refuses refusal) | Ok plan ↦ begins_plan k actor f plan paths ]) a → r ≡ Ok a.plan
+  planned_by actor paths (Err refusal) h = absurd (cc)
+  planned_by actor paths (Ok plan) h = ap made (begins plan paths (first_lack k.history actor k.sessions k.files f (plan_updates plan)) h)
+
+  attempts_by : (actor : ℕ) (paths : List (List ℕ)) (o : Option Attempt) → (attempts k actor f e o paths).attempt ≡ Some a → family_plan f e (view_of_files k.files) ≡ Ok a.plan
+  attempts_by actor paths (Some b) h = absurd (cc)
+  attempts_by actor paths None h = planned_by actor paths (family_plan f e (view_of_files k.files)) h
+
+  undecided_by : (actor : ℕ) (o : Option Attempt) (m : Option (List ℕ)) → first_missing k.files (edit_paths k.files f) ≡ m → Begins (elim m [ Some path ↦ decides (reads path) | None ↦ attempts k actor f e o (edit_paths k.files f) ]) a → PlansKept k f e a
+  undecided_by actor o (Some path) q h = absurd (cc)
+  undecided_by actor o None q h = record { plan = attempts_by actor (edit_paths k.files f) o h; current = q }
+
+  edit_by : (actor : ℕ) (editing : Editing) (d : Option Decided) → Begins (elim d [ None ↦ undecided_work k actor f e editing.attempt | Some d ↦ decides (decided_work k f editing) ]) a → PlansKept k f e a
+  edit_by actor editing (Some d) h = absurd (cc)
+  edit_by actor editing None h = undecided_by actor editing.attempt (first_missing k.files (edit_paths k.files f)) refl h
+
+  living_by : (actor : ℕ) (b : Begun) (t : Bool) → Begins (elim t [ true ↦ edit_work k actor f e b.editing | false ↦ decides rests ]) a → PlansKept k f e a
+  living_by actor b false h = absurd (cc)
+  living_by actor b true h = edit_by actor b.editing b.editing.decided h
+
+  work_by : (actor : ℕ) (b : Begun) (o : Option (ℕ × Edit)) → o ≡ Some (f, e) → (work_of_edit k actor b o).attempt ≡ Some a → PlansKept k f e a
+  work_by actor b o q h = living_by actor b (lives_in k.history b.epoch) (subst (λ (x : Option (ℕ × Edit)). (work_of_edit k actor b x).attempt ≡ Some a) q h)
+
+  operation_by : (actor : ℕ) (b : Begun) (op : Operation) → edit_of (Some op) ≡ Some (f, e) → (work_of_operation k actor b op).attempt ≡ Some a → PlansKept k f e a
+  operation_by actor b (operation.Set g at name number) q h = work_by actor b (edit_of (Some (operation.Set g at name number))) q h
+  operation_by actor b (operation.Clear g at) q h = work_by actor b (edit_of (Some (operation.Clear g at))) q h
+  operation_by actor b (operation.Insert card) q h = absurd (cc)
+  operation_by actor b operation.Out q h = absurd (cc)
+  operation_by actor b (operation.Arm change) q h = absurd (cc)
+  operation_by actor b (operation.Load g) q h = absurd (cc)
+  operation_by actor b (operation.OpenChannel handle aid) q h = absurd (cc)
+  operation_by actor b (operation.Raw handle apdu) q h = absurd (cc)
+  operation_by actor b (operation.Close handle) q h = absurd (cc)
+  operation_by actor b (operation.Verify key pin) q h = absurd (cc)
+  operation_by actor b (operation.End key) q h = absurd (cc)
+  operation_by actor b operation.Poll q h = absurd (cc)
+  operation_by actor b operation.Look q h = absurd (cc)
+  operation_by actor b (operation.Watch mask) q h = absurd (cc)
+  operation_by actor b operation.Notices q h = absurd (cc)
+
+  begun_by : (actor : ℕ) (b : Option Begun) (op : Option Operation) → edit_of op ≡ Some (f, e) → (decision_of_begun k actor b op).attempt ≡ Some a → PlansKept k f e a
+  begun_by actor b None q h = absurd (cc)
+  begun_by actor None (Some op) q h = absurd (cc)
+  begun_by actor (Some b) (Some op) q h = operation_by actor b op q h
+
+  line_by : (s : Script) (l : Line) → edit_at s l k ≡ Some (f, e) → (decision_at s l k).attempt ≡ Some a → PlansKept k f e a
+  line_by s (line.Turn zero) q h = absurd (cc)
+  line_by s (line.Turn (suc n)) q h = begun_by (suc n) (begun_of (suc n) k.jobs) (operation_now s (suc n) k.jobs) q h
+  line_by s (line.Begin n i) q h = begun_by n (Some (fresh_begun i k.history)) (operation_at s n i) q h
+  line_by s (line.Exchange n c r) q h = absurd (cc)
+  line_by s (line.Failed n c d) q h = absurd (cc)
+  line_by s (line.Reset n) q h = absurd (cc)
+  line_by s (line.ResetFailed n) q h = absurd (cc)
+  line_by s (line.World n w) q h = absurd (cc)
+  line_by s (line.Published n g v p text) q h = absurd (cc)
+  line_by s (line.EpochEnd n v p) q h = absurd (cc)
+  line_by s (line.Refused g n) q h = absurd (cc)
+  line_by s (line.Answered n i given) q h = absurd (cc)
+
+-- ---- current paths
+
+none_fails : (files : List CachedFile) (path : List ℕ) (rest : Option (List ℕ)) (b : Bool) → (if not b then Some path else rest) ≡ None → (b ≡ true) × (rest ≡ None)
+none_fails files path rest true h = (refl, h)
+none_fails files path rest false h = absurd (cc)
+
+none_missing : (files : List CachedFile) (paths : List (List ℕ)) → first_missing files paths ≡ None → all_current files paths ≡ true
+none_missing files [] h = refl
+none_missing files (path ∷ paths) h =
+    let q = none_fails files path (first_missing files paths) (is_current files path) h in
+    and_from (is_current files path) (all_current files paths) q.0 (none_missing files paths q.1)
+
+front : (files : List CachedFile) (a b : List (List ℕ)) → all_current files (a ++ b) ≡ true → all_current files a ≡ true
+front files [] b h = refl
+front files (path ∷ a) b h = let q = and_parts (is_current files path) (all_current files (a ++ b)) h in and_from (is_current files path) (all_current files a) q.0 (front files a b q.1)
+
+behind : (files : List CachedFile) (a b : List (List ℕ)) → all_current files (a ++ b) ≡ true → all_current files b ≡ true
+behind files [] b h = h
+behind files (path ∷ a) b h = behind files a b (and_parts (is_current files path) (all_current files (a ++ b)) h).1
+
+pub member : (files : List CachedFile) (paths : List (List ℕ)) (i : ℕ) (path : List ℕ) → slice_get paths i ≡ Some path → all_current files paths ≡ true → is_current files path ≡ true
+member files [] i path e h = absurd (cc)
+member files (x ∷ paths) zero path e h = let same : x ≡ path = cc in subst (λ y. is_current files y ≡ true) same (and_parts (is_current files x) (all_current files paths) h).0
+member files (x ∷ paths) (suc i) path e h = member files paths i path e (and_parts (is_current files x) (all_current files paths) h).1
+
+-- ---- the family's two files
+
+abbrev pub IsTwo : ℕ → Type 0
+IsTwo f = (slice_get (family_paths f) 0 ≡ Some (family_path f 0)) × (slice_get (family_paths f) 1 ≡ Some (family_path f 1))
+
+pub two_by : (f : ℕ) (a b c : Bool) → (0 == f) ≡ a → (1 == f) ≡ b → (2 == f) ≡ c → (a || (b || (c || false))) ≡ true → IsTwo f
+two_by f true b c x y z h = subst IsTwo (eqb-true 0 f x) (refl, refl)
+two_by f false true c x y z h = subst IsTwo (eqb-true 1 f y) (refl, refl)
+two_by f false false true x y z h = subst IsTwo (eqb-true 2 f z) (refl, refl)
+two_by f false false false x y z h = absurd (cc)
+
+same_plan : (f : ℕ) (e : Edit) (v w : View) → v (family_path f 0) ≡ w (family_path f 0) → v (family_path f 1) ≡ w (family_path f 1) → family_plan f e v ≡ family_plan f e w
+same_plan f e v w a b = ap (λ (x : Content). plan_edit e x (v (family_path f 1))) a ∙ ap (λ (x : Content). plan_edit e (w (family_path f 0)) x) b
+
+-- ---- the rule of a file
+
+none_there : List (List ℕ)
+none_there = []
+
+no_row : (n : ℕ) (b : Bool) → (if b then slice_get none_there (n - 1) else None) ≡ None
+unfolding none_there
+no_row n true = refl
+no_row n false = refl
+
+rows_at : (n : ℕ) (o : Option FileState) → row_from_one (unwrap_or (option_map (λ (x : FileState). x.rows) o) missing).rows n ≡ option_and_then (record_at n) o
+unfolding none_there
+rows_at n None = no_row n (nat_lt 0 n)
+rows_at n (Some file) = refl
+
+module _ (card : CardState) (files : List CachedFile) (t : FilesTrue card files) where
+  taken_file : (path : List ℕ) (file : CachedFile) → taken path files ≡ Some file → FileTrue card file × (file.path ≡ path)
+  taken_file path file h = by_list files t h
+    where
+      by_test : (x : CachedFile) (rest : Option CachedFile) → FileTrue card x → (rest ≡ Some file → FileTrue card file) → (b : Bool) → (if b then Some x else rest) ≡ Some file → FileTrue card file
+      by_test x rest u next true e = let same : x ≡ file = cc in subst (FileTrue card) same u
+      by_test x rest u next false e = next e
+
+      by_true : (fs : List CachedFile) → FilesTrue card fs → taken path fs ≡ Some file → FileTrue card file
+      by_true [] u e = absurd (cc)
+      by_true (x ∷ fs) u e = by_test x (taken path fs) u.0 (λ q. by_true fs u.1 q) (is_of path x) e
+
+      by_list : (fs : List CachedFile) → FilesTrue card fs → taken path fs ≡ Some file → FileTrue card file × (file.path ≡ path)
+      by_list fs u e = (by_true fs u e, same_bytes_is file.path path (find_passes (is_of path) fs file e))
+
+  pub card_agrees : Agrees files (λ path. rows_of path card)
+  card_agrees = record { same = λ path file h. let q = taken_file path file h in q.0.content ∙ ap (λ (x : List ℕ). rows_of x card) q.1 }
+
+  view_is : (path : List ℕ) → is_current files path ≡ true → view_of_files files path ≡ rows_of path card
+  view_is path h = current-agrees files (λ path. rows_of path card) path card_agrees h
+
+  cons_rest : (p : Option (List ℕ)) (rest : List (List ℕ)) → all_current files (cons_option p rest) ≡ true → all_current files rest ≡ true
+  cons_rest None rest h = h
+  cons_rest (Some path) rest h = (and_parts (is_current files path) (all_current files rest) h).1
+
+  cons_first : (p : Option (List ℕ)) (rest : List (List ℕ)) (path : List ℕ) → p ≡ Some path → all_current files (cons_option p rest) ≡ true → is_current files path ≡ true
+  cons_first None rest path e h = absurd (cc)
+  cons_first (Some q) rest path e h = let same : q ≡ path = cc in subst (λ y. is_current files y ≡ true) same (and_parts (is_current files q) (all_current files rest) h).0
+
+  named_current : (paths : List (List ℕ)) (i : ℕ) (path named : List ℕ) → slice_get paths i ≡ Some path → rule_path files path ≡ Some named → all_current files (filter_map (rule_path files) paths) ≡ true → is_current files named ≡ true
+  named_current [] i path named e n h = absurd (cc)
+  named_current (x ∷ paths) zero path named e n h = let same : x ≡ path = cc in cons_first (rule_path files x) (filter_map (rule_path files) paths) named (ap (rule_path files) same ∙ n) h
+  named_current (x ∷ paths) (suc i) path named e n h = named_current paths i path named e n (cons_rest (rule_path files x) (filter_map (rule_path files) paths) h)
+
+  module _ (path : List ℕ) (file : CachedFile) (found : taken path files ≡ Some file) (rules : (named : List ℕ) → rule_path files path ≡ Some named → is_current files named ≡ true) where
+    rule_is : (arr : ArrRef) → file.arr ≡ Some arr → rule_of_record (row_from_one (view_of_files files (rule_file_path path arr)).rows arr.row) ≡ rule_of_record (option_and_then (record_at arr.row) (file_of (rule_file_path path arr) card))
+    rule_is arr h =
+        let named : rule_path files path ≡ Some (rule_file_path path arr) = ap (path_of_rule path) found ∙ ap (option_map (rule_file_path path)) h in
+        let rows = view_is (rule_file_path path arr) (rules (rule_file_path path arr) named) in
+        ap (λ (x : Content). rule_of_record (row_from_one x.rows arr.row)) rows ∙ ap rule_of_record (rows_at arr.row (file_of (rule_file_path path arr) card))
+
+    of_card : (o : Option FileState) → file_of path card ≡ o → file.arr ≡ option_and_then (λ (x : FileState). x.arr) o → need_by_rule files path file.arr ≡ need_of_file card o
+    of_card None h e = rw e refl
+    of_card (Some there) h e =
+        let name : there.path ≡ path = there_path there h in
+        by_arr file.arr refl there.arr refl (sym e) name
+      where
+        in_application : (b : Bool) (there : FileState) → (if b then None else file_at path card) ≡ Some there → file_at path card ≡ Some there
+        in_application true there h = absurd (cc)
+        in_application false there h = h
+
+        there_path : (there : FileState) → file_of path card ≡ Some there → there.path ≡ path
+        there_path there h = found_path path card there (in_application (is_in_application path && is_none (usim_of card)) there h)
+
+        by_arr : (a : Option ArrRef) → file.arr ≡ a → (b : Option ArrRef) → there.arr ≡ b → there.arr ≡ file.arr → there.path ≡ path → need_by_rule files path file.arr ≡ need_of_file card (Some there)
+        by_arr None x b y z name = rw x (let q : there.arr ≡ None = z ∙ x in rw q refl)
+        by_arr (Some arr) x b y z name =
+            let q : there.arr ≡ Some arr = z ∙ x in
+            rw (x, q, name) (ap (λ (r : Rule). r.update) (rule_is arr x))
+
+    pub need_is : update_need files path ≡ card_need card path
+    need_is =
+        let t = taken_file path file found in
+        ap (need_of_taken files path) found ∙ of_card (file_of path card) refl (t.0.arr ∙ ap (λ (x : List ℕ). arr_at x card) t.1)
+
+  some_of : (path : List ℕ) (o : Option CachedFile) → taken path files ≡ o → is_some o ≡ true → (file : CachedFile) × (taken path files ≡ Some file)
+  some_of path None h c = absurd (cc)
+  some_of path (Some file) h c = (file, h)
+
+  pub path_need : (paths : List (List ℕ)) (i : ℕ) (path : List ℕ) → slice_get paths i ≡ Some path → all_current files (paths ++ filter_map (rule_path files) paths) ≡ true → update_need files path ≡ card_need card path
+  path_need paths i path e h =
+      let here = member files paths i path e (front files paths (filter_map (rule_path files) paths) h) in
+      let q = some_of path (taken path files) refl here in
+      need_is path q.0 q.1 (λ named n. named_current paths i path named e n (behind files paths (filter_map (rule_path files) paths) h))
+
+-- ---- the whole
+
+pub planned_true : (s : Script) (card : CardState) (k : Kept) (l : Line) (f : ℕ) (e : Edit) (a : Attempt) → FilesTrue card k.files → is_one_of f all_families ≡ true → edit_at s l k ≡ Some (f, e) → (decision_at s l k).attempt ≡ Some a → IsPlanned card k f e a
+planned_true s card k l f e a t one edit begins =
+    let p = line_by k f e a s l edit begins in
+    let all = none_missing k.files (edit_paths k.files f) p.current in
+    let own = front k.files (family_paths f) (filter_map (rule_path k.files) (family_paths f)) all in
+    let two = two_by f (0 == f) (1 == f) (2 == f) refl refl refl one in
+    let main = view_is card k.files t (family_path f 0) (member k.files (family_paths f) 0 (family_path f 0) two.0 own) in
+    let extension = view_is card k.files t (family_path f 1) (member k.files (family_paths f) 1 (family_path f 1) two.1 own) in
+    record {
+      plan = sym (same_plan f e (view_of_files k.files) (λ path. rows_of path card) main extension) ∙ p.plan;
+      main_need = path_need card k.files t (family_paths f) 0 (family_path f 0) two.0 all;
+      extension_need = path_need card k.files t (family_paths f) 1 (family_path f 1) two.1 all;
+    }
