@@ -1,7 +1,7 @@
 -- What is kept of lines whose responses are right agrees with the card, and what is due and planned is for it.
 use Rattle.std.proofs.Common.{◌≡◌, ℕ, ◌==◌, Bool, true, false, ◌&&◌, ◌||◌, Option, Some, None, List, [], ◌∷◌, refl, ap, sym, ◌∙◌, subst, true≢false}
 use Rattle.std.specs.Prelude.{slice_get}
-use Rattle.std.proofs.lemmas.Bool.{and_parts, and_from}
+use Rattle.std.proofs.lemmas.Bool.{and_parts}
 use Rattle.apdu.specs.Words.{is_one_of}
 use Rattle.adn.specs.declared.edit.Edit.{Edit}
 use Rattle.card_model.specs.declared.world.CardState.{CardState}
@@ -10,7 +10,6 @@ use Rattle.card_model.specs.declared.world.WorldEvent.TheVariants.{Arm, Out, Ins
 use Rattle.card_model.specs.Step.{card_inside, after_event, armed_in, armed_at, armed_card, with_card}
 use Rattle.script_reader.specs.declared.types.Script.{Script}
 use Rattle.script_reader.specs.Rules.{keeps_rules}
-use Rattle.report.specs.declared.line.Mode.{Mode}
 use Rattle.report.specs.declared.line.Line.{Line}
 use Rattle.report.specs.declared.line.Line.TheVariants as line
 use Rattle.families.specs.Families.{all_families, family_paths, family_path}
@@ -21,10 +20,8 @@ use Rattle.rules.specs.declared.due.Due.TheVariants.{Publish as publish}
 use Rattle.rules.specs.Due.{due, kept_text}
 use Rattle.rules.specs.After.{decision_at, kept_of}
 use Rattle.rules.specs.Rules.{has_right_response}
-use Rattle.rules.specs.Legal.{is_legal_line, are_legal_lines}
 use Rattle.rules.specs.State.{first_world, world_after, world_of, shown_in, same_shown}
 use Rattle.rules.specs.Agreement.{are_responses_right, has_files_apart, Sane, TiedInside, edit_at, IsPlanned}
-use Rattle.rules.proofs.Tracked.{legal_response}
 use Rattle.rules.proofs.Worlds.{get_set}
 use Rattle.rules.proofs.Selected.{answers_right}
 use Rattle.rules.proofs.Scripts.{worlds_sane, inside_fine}
@@ -33,14 +30,6 @@ use Rattle.rules.proofs.Sound.{beginning, quiet_touch, forgotten_all, FineWorld,
 use Rattle.rules.proofs.Publishing.{due-current}
 use Rattle.rules.proofs.Told.{told_true}
 use Rattle.rules.proofs.Planned.{member, two_by, planned_true}
-
--- ---- legal lines
-
-pub legal_right : (s : Script) (m : Mode) (lines : List Line) → are_legal_lines s m lines ≡ true → are_responses_right s lines ≡ true
-legal_right s m [] h = refl
-legal_right s m (l ∷ earlier) h =
-    let q = and_parts (is_legal_line s m l earlier) (are_legal_lines s m earlier) h in
-    and_from (are_responses_right s earlier) (has_right_response (world_of s earlier) l) (legal_right s m earlier q.1) (legal_response s m l earlier q.0)
 
 -- ---- what is kept
 

@@ -3,8 +3,6 @@ mod Verdicts
 mod Says
 mod Publishing
 mod Performing
-mod Walk
-mod Selections
 mod Tracked
 mod OtherSlots
 mod Looking
