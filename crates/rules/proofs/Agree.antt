@@ -1,5 +1,5 @@
 -- What is kept of lines whose responses are right agrees with the card, and what is due and planned is for it.
-use Rattle.std.proofs.Common.{◌≡◌, ℕ, ◌==◌, Bool, true, false, ◌&&◌, ◌||◌, Option, Some, None, List, [], ◌∷◌, refl, ap, sym, ◌∙◌, subst, true≢false}
+use Rattle.std.proofs.Common.{◌≡◌, ℕ, ◌==◌, true, Option, Some, None, List, [], ◌∷◌, refl, ap, sym, ◌∙◌, true≢false}
 use Rattle.std.specs.Prelude.{slice_get}
 use Rattle.std.proofs.lemmas.Bool.{and_parts}
 use Rattle.apdu.specs.Words.{is_one_of}
@@ -14,19 +14,19 @@ use Rattle.report.specs.declared.line.Line.{Line}
 use Rattle.report.specs.declared.line.Line.TheVariants as line
 use Rattle.families.specs.Families.{all_families, family_paths, family_path}
 use Rattle.epoch_cache.specs.declared.cached.CachedFile.{CachedFile}
-use Rattle.epoch_cache.specs.Cache.{forgotten, is_current, all_current}
+use Rattle.epoch_cache.specs.Cache.{forgotten, is_current}
 use Rattle.rules.specs.declared.edits.Attempt.{Attempt}
 use Rattle.rules.specs.declared.due.Due.TheVariants.{Publish as publish}
 use Rattle.rules.specs.Due.{due, kept_text}
 use Rattle.rules.specs.After.{decision_at, kept_of}
 use Rattle.rules.specs.Rules.{has_right_response}
-use Rattle.rules.specs.State.{first_world, world_after, world_of, shown_in, same_shown}
+use Rattle.rules.specs.State.{first_world, world_of, shown_in, same_shown}
 use Rattle.rules.specs.Agreement.{are_responses_right, has_files_apart, Sane, TiedInside, edit_at, IsPlanned}
 use Rattle.rules.proofs.Worlds.{get_set}
 use Rattle.rules.proofs.Selected.{answers_right}
 use Rattle.rules.proofs.Scripts.{worlds_sane, inside_fine}
 use Rattle.rules.proofs.Wellformed.{sane_script}
-use Rattle.rules.proofs.Sound.{beginning, quiet_touch, forgotten_all, FineWorld, FineLines, sound}
+use Rattle.rules.proofs.Sound.{quiet_touch, forgotten_all, FineWorld, FineLines, sound}
 use Rattle.rules.proofs.Publishing.{due-current}
 use Rattle.rules.proofs.Told.{told_true}
 use Rattle.rules.proofs.Planned.{member, two_by, planned_true}

@@ -3,7 +3,7 @@ use Rattle.std.proofs.Common.{◌≡◌, ◌⊎◌, inl, inr, ℕ, ◌+◌, ◌%
 use Rattle.std.specs.Prelude.{not, nat_lt, find}
 use Rattle.std.proofs.lemmas.Bool.{cond_both, and_parts, eqb-true, and_from, and_right, or_right, or_from, ne_eqb, false≢true}
 use Rattle.apdu.specs.Values.{CommandValue, ResponseValue}
-use Rattle.apdu.specs.Words.{same_bytes, same_number, is_empty, path_of, is_one_of, is_between}
+use Rattle.apdu.specs.Words.{same_bytes, same_number, path_of}
 use Rattle.apdu.specs.Apdu.{with_le, select_ins, get_response_ins, read_binary_ins, verify_ins, has_more, wants_other_le, wants_more, is_success, le_of_byte, same_command}
 use Rattle.apdu.specs.declared.class.ClassKind.TheVariants.{Plain}
 use Rattle.card_model.specs.Waiting.{WaitingValue}
@@ -20,7 +20,7 @@ use Rattle.card_effects.specs.Basic.{LeavesBasic, SelectsBasic}
 use Rattle.card_effects.proofs.Basic.{basic_effect, plain_basic, channel_found}
 use Rattle.card_effects.proofs.Same.{same_bytes_is}
 use Rattle.rules.proofs.Selected.{ids_named}
-use Rattle.rules.specs.Agreement.{SameButLe, IsNamed, BasicWaits, IsLong, Stands, itself, again, waits, ChainTied}
+use Rattle.rules.specs.Agreement.{SameButLe, BasicWaits, IsLong, Stands, itself, again, waits, ChainTied}
 
 same_number_is : (a b : Option ℕ) → same_number a b ≡ true → a ≡ b
 same_number_is None None h = refl

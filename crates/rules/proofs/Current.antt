@@ -1,9 +1,9 @@
 -- The current files behind a command.
-use Rattle.std.proofs.Common.{◌≡◌, ◌⊎◌, inl, inr, ℕ, ◌-◌, ◌==◌, Bool, true, false, ◌&&◌, ◌||◌, if◌then◌else◌, Option, Some, None, List, [], ◌∷◌, ◌++◌, length, refl, ap, sym, ◌∙◌, subst, arith}
-use Rattle.std.specs.Prelude.{not, is_none, filter, nat_lt, option_map, option_and_then, unwrap_or}
-use Rattle.std.proofs.lemmas.Bool.{and_parts, and_from, or_left, eq-eqb, eqb-true, false≢true}
+use Rattle.std.proofs.Common.{◌≡◌, ℕ, ◌-◌, ◌==◌, Bool, true, false, ◌&&◌, ◌||◌, if◌then◌else◌, Option, Some, None, List, [], ◌∷◌, ◌++◌, refl, ap, sym, ◌∙◌, subst, arith}
+use Rattle.std.specs.Prelude.{not, is_none, filter, option_map, option_and_then, unwrap_or}
+use Rattle.std.proofs.lemmas.Bool.{and_parts, and_from, or_left, eqb-true, false≢true}
 use Rattle.apdu.specs.Values.{CommandValue, ResponseValue}
-use Rattle.apdu.specs.Words.{same_bytes, has_value}
+use Rattle.apdu.specs.Words.{same_bytes}
 use Rattle.apdu.specs.Apdu.{has_more, is_success, is_update_ins, update_record_ins}
 use Rattle.fcp.specs.Content.{missing, with_row}
 use Rattle.card_model.specs.declared.world.FileState.{FileState}
@@ -12,7 +12,6 @@ use Rattle.card_model.specs.declared.world.CardState.{CardState}
 use Rattle.card_model.specs.Card.{is_in_application, usim_of, file_at, file_of, rows_of}
 use Rattle.card_model.specs.Update.{with_record}
 use Rattle.card_effects.specs.Effect.{acted, RecordFits, Effect, quiet, refuses_select, reads_record, reads_binary, gets, selects, updates_record, updates_binary, opens, closes, hands_over, acts}
-use Rattle.card_effects.specs.Basic.{HasCurrent}
 use Rattle.card_effects.proofs.Basic.{effect_aids}
 use Rattle.card_effects.proofs.Files.{RowWritten}
 use Rattle.card_effects.proofs.Same.{same_bytes_is, same_bytes_self}
@@ -20,12 +19,10 @@ use Rattle.epoch_cache.specs.declared.cached.CachedFile.{CachedFile}
 use Rattle.epoch_cache.specs.declared.cached.Touch.{Touch}
 use Rattle.epoch_cache.specs.declared.cached.Written.{Written}
 use Rattle.epoch_cache.specs.declared.cached.Written.TheVariants as written
-use Rattle.epoch_cache.specs.Cache.{is_update, is_row_update, written_by, is_raw_write, is_overwritten, touch_exchanged, is_moved, is_spoiled, is_of, is_row_of, patched, patched_file, written_files, forgotten, with_completed, files_exchanged}
-use Rattle.link.specs.Commands.{is_at}
+use Rattle.epoch_cache.specs.Cache.{is_update, written_by, is_overwritten, touch_exchanged, is_moved, is_spoiled, is_of, is_row_of, patched, written_files, forgotten, with_completed}
 use Rattle.loader.specs.Values.{ReadingValue}
 use Rattle.loader.specs.Reading.{unspoiled}
 use Rattle.rules.specs.Agreement.{FineChanges, IsSelected, FileTrue, FilesTrue, arr_at, ReadingTrue, ReadingsTrue}
-use Rattle.rules.proofs.Chains.{is_on_basic}
 use Rattle.rules.proofs.Truth.{FineCard, sees}
 use Rattle.rules.proofs.Readings.{CompletedTrue, same_reading, file_of_same}
 use Rattle.rules.proofs.Spared.{WritesRow, Writes, by_raw, unknown, one_row, writes, row_written, spared}

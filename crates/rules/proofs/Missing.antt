@@ -11,7 +11,7 @@ use Rattle.card_model.specs.declared.world.Change.{Change}
 use Rattle.card_model.specs.declared.world.CardState.{CardState}
 use Rattle.card_model.specs.Card.{application_id, is_in_application, usim_of, is_visible, file_at, file_of, has_number, is_selectable, is_directory_path}
 use Rattle.card_model.specs.Select.{ids_of}
-use Rattle.card_effects.specs.Effect.{acted, basic, asks_target, RefusesSelect, Effect, quiet, refuses_select, reads_record, reads_binary, gets, selects, updates_record, updates_binary, opens, closes, hands_over}
+use Rattle.card_effects.specs.Effect.{acted, basic, asks_target, Effect, quiet, refuses_select, reads_record, reads_binary, gets, selects, updates_record, updates_binary, opens, closes, hands_over}
 use Rattle.card_effects.proofs.Basic.{channel_found, plain_basic}
 use Rattle.card_effects.proofs.Same.{same_bytes_is}
 use Rattle.link.specs.declared.chain.Final.{Final}

@@ -1,23 +1,18 @@
 -- Where an attempt begins, its plan is that for the card in the slot.
-use Rattle.std.proofs.Common.{◌≡◌, ◌⊎◌, ℕ, zero, suc, ◌-◌, ◌==◌, Bool, true, false, ◌&&◌, ◌||◌, if◌then◌else◌, Option, Some, None, List, [], ◌∷◌, ◌++◌, refl, ap, sym, ◌∙◌, subst, true≢false}
+use Rattle.std.proofs.Common.{◌≡◌, ℕ, zero, suc, ◌-◌, ◌==◌, Bool, true, false, ◌&&◌, ◌||◌, if◌then◌else◌, Option, Some, None, List, [], ◌∷◌, ◌++◌, refl, ap, sym, ◌∙◌, subst}
 use Rattle.std.specs.List.{filter_map, cons_option}
-use Rattle.std.specs.Prelude.{not, is_some, is_none, find, nat_lt, slice_get, option_map, option_and_then, unwrap_or, Result, Ok, Err}
-use Rattle.std.specs.List.{list_all}
+use Rattle.std.specs.Prelude.{not, is_some, is_none, nat_lt, slice_get, option_map, option_and_then, unwrap_or, Result, Ok, Err}
 use Rattle.std.proofs.lemmas.Bool.{and_parts, and_from, eqb-true}
-use Rattle.apdu.specs.Words.{is_one_of, same_bytes}
+use Rattle.apdu.specs.Words.{is_one_of}
 use Rattle.fcp.specs.Content.{Content, missing}
 use Rattle.fcp.specs.declared.control.ArrRef.{ArrRef}
 use Rattle.fcp.specs.declared.rule.Rule.{Rule}
-use Rattle.fcp.specs.declared.rule.Need.{Need}
-use Rattle.fcp.specs.declared.rule.Need.TheVariants.{Always}
 use Rattle.adn.specs.declared.edit.Edit.{Edit}
 use Rattle.adn.specs.declared.edit.Plan.{Plan}
 use Rattle.adn.specs.declared.edit.PlanError.{PlanError}
 use Rattle.card_model.specs.declared.world.FileState.{FileState}
 use Rattle.card_model.specs.declared.world.CardState.{CardState}
-use Rattle.card_model.specs.declared.world.World.{World}
 use Rattle.card_model.specs.Card.{file_at, file_of, rows_of, rule_file_path, rule_of_record, record_at, is_in_application, usim_of}
-use Rattle.card_model.specs.Step.{card_inside}
 use Rattle.card_effects.proofs.Same.{same_bytes_is}
 use Rattle.script_reader.specs.declared.types.Script.{Script}
 use Rattle.script_reader.specs.declared.types.Operation.{Operation}
@@ -38,7 +33,7 @@ use Rattle.rules.specs.declared.kept.Work.TheVariants.{Rests as rests, Refuses a
 use Rattle.rules.specs.History.{lives_in}
 use Rattle.rules.specs.Kept.{begun_of, operation_now, operation_at}
 use Rattle.rules.specs.Editing.{rule_path, path_of_rule, edit_paths, planned, first_lack, row_from_one, need_by_rule, need_of_taken, update_need, need_of_file, card_need}
-use Rattle.rules.specs.Work.{work_of_operation, decides, begins_plan, plans, goes_on, attempts, undecided_work, decided_work, edit_work, work_of_edit}
+use Rattle.rules.specs.Work.{work_of_operation, decides, begins_plan, attempts, undecided_work, decided_work, edit_work, work_of_edit}
 use Rattle.rules.specs.After.{edit_of, fresh_begun, decision_of_begun, decision_at}
 use Rattle.rules.specs.Agreement.{FileTrue, FilesTrue, arr_at, edit_at, IsPlanned}
 use Rattle.rules.specs.Laws.{Agrees}

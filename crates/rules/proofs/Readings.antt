@@ -1,6 +1,6 @@
 -- The readings of a job behind a command of its own.
 use Rattle.std.proofs.Common.{◌≡◌, ◌⊎◌, inl, inr, ℕ, ◌-◌, ◌*◌, Bool, true, false, ◌&&◌, if◌then◌else◌, Option, Some, None, List, [], ◌∷◌, ◌++◌, length, take, refl, ap, sym, ◌∙◌, subst, arith, min}
-use Rattle.std.specs.Prelude.{not, is_none, nat_le, find, option_map, option_and_then, filter}
+use Rattle.std.specs.Prelude.{is_none, nat_le, find, option_map, option_and_then, filter}
 use Rattle.std.proofs.lemmas.Bool.{cond_both, and_parts, le-leb, false≢true}
 use Rattle.apdu.specs.Values.{CommandValue, ResponseValue}
 use Rattle.apdu.specs.Words.{filled_to, has_value}
@@ -20,7 +20,7 @@ use Rattle.link.specs.declared.chain.Final.{Final}
 use Rattle.link.specs.Commands.{is_reading_select, named_path}
 use Rattle.epoch_cache.specs.declared.cached.CachedFile.{CachedFile}
 use Rattle.loader.specs.Values.{ReadingValue}
-use Rattle.loader.specs.Reading.{begun_by, begun, further, reading_after, reading_of, reading_at, is_basic_read, next_read, is_complete, file_read, complete_one, file_of_complete, row_read, asked_len, read_by, read_row, read_piece, read_number, reads_needed, content_by, is_reading_of, path_read, without_path, without_reading, with_reading, readings_after}
+use Rattle.loader.specs.Reading.{begun_by, begun, further, reading_after, reading_of, reading_at, is_basic_read, next_read, is_complete, file_read, file_of_complete, row_read, asked_len, read_by, read_row, read_piece, read_number, reads_needed, content_by, is_reading_of, path_read, without_path, without_reading, with_reading, readings_after}
 use Rattle.rules.specs.Agreement.{IsSelected, Stands, FileTrue, ReadingTrue, ReadingsTrue}
 use Rattle.rules.proofs.Chains.{same_command_is}
 use Rattle.rules.proofs.Complete.{complete_content}

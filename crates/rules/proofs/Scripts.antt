@@ -3,7 +3,6 @@ use Rattle.std.proofs.Common.{◌≡◌, ◌⊎◌, inl, inr, ℕ, zero, suc, tr
 use Rattle.std.specs.Prelude.{slice_get, slice_set, option_and_then}
 use Rattle.apdu.specs.Values.{CommandValue}
 use Rattle.card_model.specs.declared.world.CardState.{CardState}
-use Rattle.card_model.specs.declared.world.Change.{Change}
 use Rattle.card_model.specs.declared.world.World.{World}
 use Rattle.card_model.specs.declared.world.WorldEvent.{WorldEvent}
 use Rattle.card_model.specs.declared.world.WorldEvent.TheVariants.{Arm, Out, Insert}
@@ -12,9 +11,9 @@ use Rattle.script_reader.specs.declared.types.Script.{Script}
 use Rattle.report.specs.declared.line.Line.{Line}
 use Rattle.report.specs.declared.line.Line.TheVariants as line
 use Rattle.rules.specs.State.{first_world, world_of, world_after}
-use Rattle.card_effects.specs.Fine.{FineFiles, AllFine, FineImages}
+use Rattle.card_effects.specs.Fine.{FineFiles}
 use Rattle.card_effects.proofs.Effects.{effect}
-use Rattle.rules.specs.Agreement.{FineChanges, FineCards, Sane}
+use Rattle.rules.specs.Agreement.{Sane}
 use Rattle.card_effects.proofs.Fine.{effect_fine}
 
 set_cases : {X : Type 0} (xs : List X) (j i : ℕ) (y x : X) → slice_get (slice_set xs j y) i ≡ Some x → (y ≡ x) ⊎ (slice_get xs i ≡ Some x)

@@ -1,19 +1,17 @@
 -- Where the rule of responses holds of each line, the kept selection is none, or current on the card's basic channel.
-use Rattle.std.proofs.Common.{◌≡◌, ◌⊎◌, inl, inr, ℕ, ◌≤◌, ◌==◌, Bool, true, false, ◌&&◌, ◌||◌, if◌then◌else◌, Option, Some, None, List, [], ◌∷◌, refl, ap, sym, ◌∙◌, subst, arith}
+use Rattle.std.proofs.Common.{◌≡◌, ◌⊎◌, inl, inr, ℕ, ◌==◌, Bool, true, false, if◌then◌else◌, Option, Some, None, List, [], ◌∷◌, refl, sym, ◌∙◌, subst}
 use Rattle.std.specs.Prelude.{length}
-use Rattle.std.proofs.lemmas.Bool.{and_parts, and_from, or_right, or_left}
+use Rattle.std.proofs.lemmas.Bool.{and_parts, and_from}
 use Rattle.std.specs.Prelude.{is_some}
 use Rattle.apdu.specs.Values.{CommandValue, ResponseValue}
-use Rattle.apdu.specs.Words.{is_empty, is_between, is_one_of, path_of, same_bytes}
+use Rattle.apdu.specs.Words.{is_between, is_one_of, path_of}
 use Rattle.apdu.specs.Apdu.{same_response}
-use Rattle.card_model.specs.declared.world.ChannelState.{ChannelState}
 use Rattle.card_model.specs.declared.world.CardState.{CardState}
 use Rattle.card_model.specs.declared.world.World.{World}
-use Rattle.card_model.specs.Card.{application_id, is_selectable, is_visible, is_directory_path, file_at}
 use Rattle.card_model.specs.Select.{ids_of}
 use Rattle.card_model.specs.Step.{on_card, card_inside, step}
 use Rattle.report.specs.declared.line.Line.TheVariants as line
-use Rattle.card_effects.specs.Effect.{acted, basic, selecting, IsPathFound}
+use Rattle.card_effects.specs.Effect.{acted, basic}
 use Rattle.card_effects.specs.Basic.{LeavesBasic, SelectsBasic, HasCurrent}
 use Rattle.card_effects.proofs.Basic.{ids_len, current_stays, current_behind}
 use Rattle.link.specs.Commands.{is_basic_select, named_path, selection_after}

@@ -1,6 +1,6 @@
 -- What is kept of lines whose responses are right agrees with the card: the selection, the current files and every partial reading.
 use Rattle.std.proofs.Common.{◌≡◌, ℕ, zero, suc, Bool, true, false, Option, Some, None, List, [], ◌∷◌, map, refl, sym, subst}
-use Rattle.std.specs.Prelude.{not, option_map}
+use Rattle.std.specs.Prelude.{not}
 use Rattle.std.proofs.lemmas.Bool.{and_parts, cond_both}
 use Rattle.apdu.specs.Values.{CommandValue, ResponseValue}
 use Rattle.apdu.specs.Words.{same_number}
@@ -20,7 +20,7 @@ use Rattle.link.specs.declared.chain.Final.{Final}
 use Rattle.link.specs.Commands.{final_after}
 use Rattle.epoch_cache.specs.declared.cached.CachedFile.{CachedFile}
 use Rattle.epoch_cache.specs.declared.cached.Touch.{Touch}
-use Rattle.epoch_cache.specs.Cache.{forgotten, is_moved, is_spoiled}
+use Rattle.epoch_cache.specs.Cache.{forgotten, is_spoiled}
 use Rattle.loader.specs.Values.{ReadingValue}
 use Rattle.loader.specs.Reading.{unspoiled}
 use Rattle.rules.specs.declared.edits.Attempt.{Attempt}
@@ -33,7 +33,7 @@ use Rattle.rules.specs.Work.{family_read}
 use Rattle.rules.specs.After.{facts_of, is_raw_line, is_started, decision_at, job_beside, jobs_beside, own_job, framework_marked, kept_after, kept_of}
 use Rattle.rules.specs.Rules.{has_right_response}
 use Rattle.rules.specs.State.{world_of, world_after}
-use Rattle.rules.specs.Agreement.{are_responses_right, FineChanges, IsSelected, IsStarted, FilesTrue, ReadingsTrue, JobsTrue, Tied, TiedInside}
+use Rattle.rules.specs.Agreement.{are_responses_right, FineChanges, IsSelected, FilesTrue, ReadingsTrue, JobsTrue, Tied, TiedInside}
 use Rattle.rules.proofs.Worlds.{Alike, arm_alike}
 use Rattle.rules.proofs.Selected.{answers_right, basic_alike, selected_step, keeps_current}
 use Rattle.rules.proofs.Chains.{chain_tied}

@@ -1,8 +1,8 @@
 -- What a command changes of the card's files is among what it spoils.
-use Rattle.std.proofs.Common.{◌≡◌, ◌⊎◌, inl, inr, ℕ, zero, suc, ◌==◌, ◌<◌, Bool, true, false, ◌&&◌, ◌||◌, if◌then◌else◌, Option, Some, None, List, [], ◌∷◌, length, refl, ap, sym, ◌∙◌, subst, arith}
-use Rattle.std.specs.Prelude.{not, is_some, nat_lt, find, slice_get, option_and_then, Result, Ok}
+use Rattle.std.proofs.Common.{◌≡◌, ◌⊎◌, inl, inr, ℕ, zero, suc, ◌==◌, ◌<◌, Bool, true, false, ◌&&◌, ◌||◌, Option, Some, None, List, [], ◌∷◌, length, refl, ap, sym, ◌∙◌, subst, arith}
+use Rattle.std.specs.Prelude.{not, nat_lt, find, slice_get, option_and_then, Result, Ok}
 use Rattle.std.specs.List.{list_all}
-use Rattle.std.proofs.lemmas.Bool.{and_parts, and_from, or_cases, or_left, or_right, eqb-true, eq-eqb, ltb-true, not-true, false≢true}
+use Rattle.std.proofs.lemmas.Bool.{and_parts, and_from, or_cases, eqb-true, eq-eqb, ltb-true, false≢true}
 use Rattle.apdu.specs.Values.{CommandValue, ResponseValue}
 use Rattle.apdu.specs.Words.{same_bytes, is_one_of, path_is_in, has_value}
 use Rattle.apdu.specs.Apdu.{fetch_ins, update_record_ins, update_binary_ins, is_update_ins, is_success}
@@ -23,7 +23,7 @@ use Rattle.card_effects.proofs.Same.{same_bytes_is, same_bytes_self}
 use Rattle.epoch_cache.specs.declared.cached.Touch.{Touch}
 use Rattle.epoch_cache.specs.declared.cached.Written.{Written}
 use Rattle.epoch_cache.specs.declared.cached.Written.TheVariants as written
-use Rattle.epoch_cache.specs.Cache.{refresh_of, handed_refresh, is_moved_by, is_update, is_row_update, written_by, is_raw_write, is_overwritten, touch_exchanged, is_moved, is_spoiled}
+use Rattle.epoch_cache.specs.Cache.{refresh_of, handed_refresh, is_moved_by, is_update, is_row_update, written_by, is_raw_write, is_overwritten, touch_exchanged, is_spoiled}
 use Rattle.link.specs.Commands.{is_at}
 use Rattle.rules.specs.Agreement.{IsSelected, tells_files, FineChange, FineChanges}
 use Rattle.rules.proofs.Chains.{is_on_basic}

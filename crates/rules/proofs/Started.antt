@@ -3,16 +3,16 @@ use Rattle.std.proofs.Common.{◌≡◌, ◌⊎◌, inl, inr, ℕ, zero, suc, �
 use Rattle.std.specs.Prelude.{not, nat_lt, find}
 use Rattle.std.proofs.lemmas.Bool.{and_parts, and_from, eqb-true, false≢true}
 use Rattle.apdu.specs.Values.{CommandValue, ResponseValue}
-use Rattle.apdu.specs.Apdu.{select_ins, same_command}
+use Rattle.apdu.specs.Apdu.{same_command}
 use Rattle.card_model.specs.declared.world.ChannelState.{ChannelState}
 use Rattle.card_model.specs.declared.world.Change.{Change}
 use Rattle.card_model.specs.declared.world.CardState.{CardState}
 use Rattle.card_model.specs.Card.{usim_of, application_named, has_number}
-use Rattle.card_effects.specs.Effect.{acts, acted, basic, selecting, is_select_form, Effect, quiet, refuses_select, reads_record, reads_binary, gets, selects, updates_record, updates_binary, opens, closes, hands_over}
+use Rattle.card_effects.specs.Effect.{acted, basic, selecting, is_select_form, Effect, quiet, refuses_select, reads_record, reads_binary, gets, selects, updates_record, updates_binary, opens, closes, hands_over}
 use Rattle.card_effects.specs.Basic.{LeavesBasic, SelectsBasic}
-use Rattle.card_effects.proofs.Basic.{basic_effect, effect_aids, channel_found, plain_basic}
+use Rattle.card_effects.proofs.Basic.{basic_effect, effect_aids}
 use Rattle.link.specs.declared.chain.Final.{Final}
-use Rattle.link.specs.Commands.{is_basic_select, is_path_select}
+use Rattle.link.specs.Commands.{is_basic_select}
 use Rattle.rules.specs.Refresh.{select_usim, startup_steps, startup_command, ends_step, leaves_usim, startup_after}
 use Rattle.rules.specs.After.{is_started}
 use Rattle.rules.specs.Agreement.{IsStarted, SameButLe, Stands, itself, again, waits}

@@ -1,6 +1,6 @@
 -- What a SELECT of a reading gives is the control parameters of the card's file.
-use Rattle.std.proofs.Common.{◌≡◌, ◌⊎◌, inl, inr, ℕ, ◌==◌, Bool, true, false, ◌&&◌, ◌||◌, if◌then◌else◌, Option, Some, None, List, [], ◌∷◌, refl, ap, sym, ◌∙◌, subst, arith}
-use Rattle.std.specs.Prelude.{not, is_some, is_none, find, Result, Ok, Err}
+use Rattle.std.proofs.Common.{◌≡◌, ◌⊎◌, inl, inr, ℕ, ◌==◌, Bool, true, false, ◌&&◌, if◌then◌else◌, Option, Some, None, List, [], ◌∷◌, refl, ap, sym, ◌∙◌, subst, arith}
+use Rattle.std.specs.Prelude.{is_some, is_none, find, Result, Ok, Err}
 use Rattle.std.proofs.lemmas.Bool.{cond_both, and_parts, and_from, or_left, false≢true}
 use Rattle.apdu.specs.Values.{CommandValue, ResponseValue}
 use Rattle.apdu.specs.Words.{same_bytes, same_number, path_of}
@@ -14,13 +14,12 @@ use Rattle.card_model.specs.declared.world.FileState.{FileState}
 use Rattle.card_model.specs.declared.world.ChannelState.{ChannelState}
 use Rattle.card_model.specs.declared.world.Change.{Change}
 use Rattle.card_model.specs.declared.world.CardState.{CardState}
-use Rattle.card_model.specs.Card.{application_id, is_in_application, usim_of, is_visible, file_at, file_of, file_seen, current_file, current_path, current_parameters, parameters_of_found, directory_parameters, fields_of_file, fields_of_directory, file_parameters, aid_of, last_id, has_path}
+use Rattle.card_model.specs.Card.{application_id, is_in_application, usim_of, is_visible, file_at, file_of, file_seen, current_file, current_path, current_parameters, parameters_of_found, directory_parameters, fields_of_directory, file_parameters, aid_of, last_id, has_path}
 use Rattle.card_model.specs.Select.{ids_of}
 use Rattle.card_effects.specs.Effect.{acted, Keeps, selecting, Effect, quiet, refuses_select, reads_record, reads_binary, gets, selects, updates_record, updates_binary, opens, closes, hands_over, acts, IsQuiet}
 use Rattle.card_effects.specs.Basic.{LeavesBasic, SelectsBasic, HasCurrent}
 use Rattle.card_effects.proofs.Basic.{basic_effect, visible_on}
 use Rattle.card_effects.specs.Fine.{FineFile}
-use Rattle.card_effects.specs.Rows.{RowsTrue}
 use Rattle.card_effects.proofs.Rows.{no_rows, fcp_of_file}
 use Rattle.card_effects.proofs.Same.{same_bytes_is}
 use Rattle.link.specs.Commands.{is_basic_select, is_path_select, is_reading_select, named_path}

@@ -1,15 +1,15 @@
 -- A script that keeps its rules begins with a world whose files and changes are well formed.
-use Rattle.std.proofs.Common.{◌≡◌, ◌⊎◌, inl, inr, ℕ, zero, suc, ◌+◌, ◌*◌, ◌==◌, ◌<◌, ◌≤◌, Bool, true, false, ◌&&◌, ◌||◌, if◌then◌else◌, Option, Some, None, List, [], ◌∷◌, length, map, All, refl, ap, sym, ◌∙◌, subst, arith}
+use Rattle.std.proofs.Common.{◌≡◌, ℕ, zero, suc, ◌*◌, ◌==◌, ◌≤◌, Bool, true, false, ◌&&◌, if◌then◌else◌, Option, Some, List, [], ◌∷◌, length, map, All, refl, ap, sym, ◌∙◌, subst, arith}
 use Rattle.std.specs.Prelude.{not, nat_le, slice_get, find, is_ok}
 use Rattle.std.specs.List.{list_all}
-use Rattle.std.proofs.lemmas.Bool.{and_parts, and_from, eqb-true, leb-true, not-true, false≢true}
+use Rattle.std.proofs.lemmas.Bool.{and_parts, and_from, eqb-true, leb-true, not-true}
 use Rattle.std.proofs.lemmas.List.{length-map}
 use Rattle.std.proofs.lemmas.List.Folds.{list_all-map}
 use Rattle.std.proofs.lemmas.List.Elements.{All-nil, All-cons}
 use Rattle.apdu.specs.Words.{same_bytes, has_value, is_between, is_one_of, path_is_in}
 use Rattle.fcp.specs.Content.{HasWidth, IsContent}
 use Rattle.fcp.specs.Control.{read_fcp, Describes}
-use Rattle.refresh_cmd.specs.Proactive.{is_good_path, is_below_master, master_file, refresh_type}
+use Rattle.refresh_cmd.specs.Proactive.{is_good_path, is_below_master, master_file}
 use Rattle.refresh_cmd.proofs.ReadBack.{reads_back}
 use Rattle.card_model.specs.declared.world.FileState.{FileState}
 use Rattle.card_model.specs.declared.world.Change.{Change}
@@ -23,7 +23,7 @@ use Rattle.script_reader.specs.declared.types.CardSpec.{CardSpec}
 use Rattle.script_reader.specs.declared.types.ChangeSpec.{ChangeSpec}
 use Rattle.script_reader.specs.declared.types.Script.{Script}
 use Rattle.script_reader.specs.Files.{is_kind_within, is_template_within, is_file_within, is_path, has_rows, is_template, has_shape, have_shape, are_files_within, are_placed}
-use Rattle.script_reader.specs.Cards.{is_card, is_listed, tells_files, is_honest, is_empty_list, is_change_within, is_change_placed, is_change}
+use Rattle.script_reader.specs.Cards.{is_card, is_listed, is_honest, is_empty_list, is_change_within, is_change_placed, is_change}
 use Rattle.script_reader.specs.Rules.{cards_keep_rules, changes_keep_rules, actors_keep_rules, schedule_keeps_rules, faults_keep_rules, budget_keeps_rules, keeps_rules}
 use Rattle.script_reader.specs.World.{content_of, is_file, file_of, card_of, change_of}
 use Rattle.script_reader.proofs.Fits.{card_files, change_files}

@@ -34,7 +34,7 @@ use Rattle.rules.specs.declared.kept.Kept.{Kept}
 use Rattle.rules.specs.declared.edits.Attempt.{Attempt}
 use Rattle.rules.specs.Editing.{update_need, card_need}
 use Rattle.rules.specs.Kept.{operation_at, operation_now}
-use Rattle.rules.specs.After.{is_started, edit_of, kept_of}
+use Rattle.rules.specs.After.{is_started, edit_of}
 use Rattle.rules.specs.State.{world_of}
 use Rattle.rules.specs.Rules.{has_right_response}
 
