@@ -84,7 +84,7 @@ module _ (changes : List Change) (card : CardState) (kind : ClassKind) (number p
   row_effect Fetch e h = elim (fetch_does changes card c) [ inl r ↦ refused_quiet changes card c _ _ e refl refl refl r | inr d ↦ hands_over e d ]
   row_effect TerminalResponse e h = others_quiet changes card c _ terminal_response_ins e refl refl refl refl (response_keeps changes card c)
 
--- ---- what was waiting makes unlike difference
+-- ---- what was waiting makes no difference
 
 module _ (changes : List Change) (card : CardState) (c : CommandValue) (p : CardState × ResponseValue) where
   same_keeps : Keeps (with_waiting card None) p → Keeps card p
@@ -200,7 +200,7 @@ module _ (changes : List Change) (card : CardState) (c : CommandValue) where
   none_past : (channels : List ChannelState) (n : ℕ) → position (has_number n) channels ≡ None → length channels ≤ position_or_len (has_number n) channels
   none_past channels n h = grind arith
 
-  none_found : (channels : List ChannelState) (n : ℕ) → position (has_number n) channels ≡ None → find (has_number n) channels ≡ None
+  pub none_found : (channels : List ChannelState) (n : ℕ) → position (has_number n) channels ≡ None → find (has_number n) channels ≡ None
   none_found channels n h = find_at (has_number n) channels ∙ slice_get_past channels (position_or_len (has_number n) channels) (none_past channels n h)
 
   none_basic : (kind : ClassKind) (number : ℕ) → channel_of c.class ≡ Some (kind, number) → channel_place number card ≡ None → selects_on_basic c ≡ true → basic card ≡ None

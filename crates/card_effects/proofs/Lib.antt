@@ -2,6 +2,7 @@ pub mod Same
 pub mod Table
 pub mod Effects
 pub mod Basic
+pub mod Numbers
 pub mod Files
 pub mod Spared
 pub mod Rows

@@ -6,6 +6,7 @@ use Rattle.card_model.specs.declared.world.CardState.{CardState}
 use Rattle.card_model.specs.Step.{on_card}
 use Rattle.card_effects.specs.Effect.{Effect}
 use Rattle.card_effects.specs.Basic.{LeavesBasic, SelectsBasic}
+use Rattle.card_effects.specs.Numbers.{ChangesNumbers}
 use Rattle.card_effects.specs.Touched.{Spares}
 use Rattle.card_effects.specs.Fine.{FineFiles, FineImages}
 
@@ -16,6 +17,10 @@ HasEffect = (changes : List Change) (card : CardState) (c : CommandValue) → Ef
 -- the basic channel changes by a SELECT on it that was done alone
 abbrev pub HasBasicEffect : Type 0
 HasBasicEffect = (changes : List Change) (card : CardState) (c : CommandValue) → LeavesBasic card c (on_card changes card c) ⊎ SelectsBasic card c (on_card changes card c)
+
+-- channels open and close by MANAGE CHANNEL alone
+abbrev pub HasNumbersEffect : Type 0
+HasNumbersEffect = (changes : List Change) (card : CardState) (c : CommandValue) → ChangesNumbers card c (on_card changes card c)
 
 -- a file changes only where the command touches it
 abbrev pub SparesOthers : Type 0

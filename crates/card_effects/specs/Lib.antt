@@ -1,5 +1,6 @@
 pub mod Effect
 pub mod Basic
+pub mod Numbers
 pub mod Touched
 pub mod Fine
 pub mod Rows

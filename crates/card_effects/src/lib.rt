@@ -4,6 +4,6 @@
 mod laws;
 
 pub use laws::{
-    applications_stay, basic_channel_is_selected, command_has_effect, files_stay_well_formed,
-    untouched_files_stay,
+    applications_stay, basic_channel_is_selected, channels_are_managed, command_has_effect,
+    files_stay_well_formed, untouched_files_stay,
 };
