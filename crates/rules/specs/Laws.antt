@@ -18,8 +18,12 @@ use Rattle.rules.specs.declared.kept.Job.{Job}
 use Rattle.rules.specs.declared.kept.Kept.{Kept}
 use Rattle.epoch_cache.specs.Cache.{taken, is_current}
 use Rattle.rules.specs.Due.{due, kept_text}
-use Rattle.rules.specs.After.{kept_of}
-use Rattle.rules.specs.State.{world_of, view_in}
+use Rattle.rules.specs.After.{decision_at, kept_of}
+use Rattle.rules.specs.State.{world_of, view_in, shown_in, same_shown}
+use Rattle.rules.specs.Agreement.{are_responses_right, has_files_apart, TiedInside, edit_at, IsPlanned}
+use Rattle.editor.specs.declared.editing.Attempt.{Attempt}
+use Rattle.adn.specs.declared.edit.Edit.{Edit}
+use Rattle.script_reader.specs.Rules.{keeps_rules}
 use Rattle.rules.specs.declared.holdings.Session.{Session}
 use Rattle.rules.specs.declared.standing.Standing.{Standing}
 use Rattle.rules.specs.Editing.{attempt_of}
@@ -71,6 +75,24 @@ FollowsInside (Some card) selected = Follows card.channels selected
 -- over legal lines the kept selection follows the card
 abbrev pub TracksSelection : Type 0
 TracksSelection = (s : Script) (m : Mode) (lines : List Line) → are_legal_lines s m lines ≡ true → FollowsInside (card_inside (world_of s lines)) (kept_of s lines).selected
+
+-- ---- what is kept, and the card; over every list of lines whose responses are right
+
+-- the responses of legal lines are
+abbrev pub AnswersRight : Type 0
+AnswersRight = (s : Script) (m : Mode) (lines : List Line) → are_legal_lines s m lines ≡ true → are_responses_right s lines ≡ true
+
+-- what is kept agrees with the card in the slot
+abbrev pub KeptAgrees : Type 0
+KeptAgrees = (s : Script) (lines : List Line) → keeps_rules s ≡ true → has_files_apart s ≡ true → are_responses_right s lines ≡ true → TiedInside (world_of s lines) (kept_of s lines)
+
+-- a publication that is due tells what the card in the slot shows
+abbrev pub ShowsCard : Type 0
+ShowsCard = (s : Script) (lines : List Line) (f : ℕ) → keeps_rules s ≡ true → has_files_apart s ≡ true → are_responses_right s lines ≡ true → is_one_of f all_families ≡ true → due s (kept_of s lines) ≡ publish f → same_shown (shown_in (world_of s lines) f) (Some (kept_text f (kept_of s lines))) ≡ true
+
+-- an attempt that begins behind them has the plan for the card in the slot
+abbrev pub PlansForCard : Type 0
+PlansForCard = (s : Script) (lines : List Line) (l : Line) (card : CardState) (f : ℕ) (e : Edit) (a : Attempt) → keeps_rules s ≡ true → has_files_apart s ≡ true → are_responses_right s lines ≡ true → card_inside (world_of s lines) ≡ Some card → is_one_of f all_families ≡ true → edit_at s l (kept_of s lines) ≡ Some (f, e) → (decision_at s l (kept_of s lines)).attempt ≡ Some a → IsPlanned card (kept_of s lines) f e a
 
 -- ---- what is kept, and looking back; over every list of lines
 
@@ -134,5 +156,5 @@ KeptLooksBack = (s : Script) (lines : List Line) → LooksBack s lines
 -- ---- plans
 
 -- over legal lines the updates of an attempt, of which one was sent, are those of the plan for the card as it was before the first
-abbrev pub PlansForTheCard : Type 0
-PlansForTheCard = (s : Script) (m : Mode) (lines : List Line) → are_legal_lines s m lines ≡ true → (actor : ℕ) (job : Job) (a : Attempt) → slice_get (kept_of s lines).jobs actor ≡ Some job → attempt_of job.begun ≡ Some a → nat_lt 0 a.sent ≡ true → plan_updates a.plan ≡ updates_planned s actor lines
+abbrev pub UpdatesFollowPlan : Type 0
+UpdatesFollowPlan = (s : Script) (m : Mode) (lines : List Line) → are_legal_lines s m lines ≡ true → (actor : ℕ) (job : Job) (a : Attempt) → slice_get (kept_of s lines).jobs actor ≡ Some job → attempt_of job.begun ≡ Some a → nat_lt 0 a.sent ≡ true → plan_updates a.plan ≡ updates_planned s actor lines

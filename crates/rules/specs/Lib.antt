@@ -16,6 +16,7 @@ pub mod Rules
 pub mod Legal
 pub mod Performed
 pub mod LookingBack
+pub mod Agreement
 pub mod Laws
 pub mod WorkedWords
 pub mod WorkedLoads
