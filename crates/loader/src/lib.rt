@@ -1,6 +1,11 @@
-//! How a file is read, READ by READ. This crate has types and definitions alone so far.
+//! How a file is read, READ by READ (ETSI TS 102 221 clauses 11.1.3 and 11.1.5).
 #![tactic(auto)]
 
 mod reading;
+mod readings;
+mod reads;
+mod words;
 
 pub use reading::{Reading, Readings, RefusedReading};
+pub use readings::{read_on, reading_at, reading_of};
+pub use reads::{is_readable, read_number, reads_needed};
