@@ -6,8 +6,12 @@ ghost use Rattle.card_model.specs.Select.{ids_of};
 ghost use Rattle.link.specs.Commands as commands;
 
 use apdu::{Command, Path};
+use link::Final;
 
 const SELECT: u8 = 0xA4;
+
+/// The status word of a SELECT that finds no file.
+pub(crate) const FILE_NOT_FOUND: u16 = 0x6A82;
 
 pub(crate) fn wants_more(sw: u16) -> bool
     ensures { result ≡ apdu_words.wants_more sw }
@@ -19,6 +23,15 @@ pub(crate) fn is_reading_select(command: &Command) -> bool
     ensures { result ≡ commands.is_reading_select command.now }
 {
     command.class == 0 && command.ins == SELECT && command.p1 == 0x08 && command.p2 == 0x04
+}
+
+/// Whether the status word refuses the command; 6A82 to the SELECT of a reading does not.
+pub(crate) fn is_refused(answered: &Final) -> bool
+    ensures { result ≡ commands.is_refused answered.now }
+{
+    let sw = answered.response.sw;
+    !(sw.is_success() || wants_more(sw.0))
+        && !(is_reading_select(&answered.command) && sw.0 == FILE_NOT_FOUND)
 }
 
 fn id(high: u8, low: u8) -> u16
