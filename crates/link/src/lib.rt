@@ -1,6 +1,12 @@
-//! The exchanges of a command, and what is selected on the basic channel. This crate has types and definitions alone so far.
+//! The exchanges of a command with a card: what follows a response 61XX or 6CXX, and what is selected on the basic channel.
 #![tactic(auto)]
 
 mod chain;
+mod select;
+mod status;
 
-pub use chain::{Chain, Final};
+pub use chain::{Chain, Final, asks_more, follow_up, get_response_for};
+pub use select::{
+    is_basic_select, is_path_select, is_reading_select, named_path, select_for_reading, select_only,
+};
+pub use status::{has_more, is_refusal, wants_more};
