@@ -129,8 +129,11 @@ view_of_files files path = content_or_missing (taken path files)
 abbrev pub forgotten : Touch → List CachedFile → List CachedFile
 forgotten t files = filter (λ (file : CachedFile). not (is_moved t file.path)) files
 
+abbrev pub without_file : List ℕ → List CachedFile → List CachedFile
+without_file path files = filter (λ (other : CachedFile). not (is_of path other)) files
+
 abbrev pub with_file : CachedFile → List CachedFile → List CachedFile
-with_file file files = filter (λ (other : CachedFile). not (is_of file.path other)) files ++ file ∷ []
+with_file file files = without_file file.path files ++ file ∷ []
 
 abbrev pub with_completed : Option CachedFile → List CachedFile → List CachedFile
 with_completed None files = files

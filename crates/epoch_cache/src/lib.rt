@@ -1,8 +1,18 @@
-//! The files whose rows are current, what moves them, and the epochs of a run. This crate has types and definitions alone so far.
+//! The files whose rows are current, what moves them, and the epochs of a run.
 #![tactic(auto)]
 
 mod cached;
+mod files;
+mod lists;
 mod past;
+mod refresh;
+mod touch;
 
 pub use cached::{CachedFile, CachedFiles, Touch, Written};
+pub use files::{
+    all_current, exchange_files, first_missing, forget_file, forget_moved, is_current, is_row_of,
+    patch_file, put_completed, put_file, taken, write_files,
+};
 pub use past::Past;
+pub use refresh::{asks_reset, handed_refresh, is_moved_by, is_refreshed};
+pub use touch::is_update;
