@@ -8,15 +8,16 @@ ghost use Rattle.loader.specs.Reading as spec;
 ghost use Rattle.loader.specs.Values.{ReadingValue};
 
 use crate::readings::is_basic_read;
-use crate::words::{FILE_NOT_FOUND, is_reading_select, is_refused, named_path, wants_more};
 use crate::{Reading, Readings, RefusedReading, read_on, reading_at};
 use apdu::{Memory, Path};
 use epoch_cache::CachedFile;
 use fcp::{Rows, read_fcp};
-use link::Final;
+use link::{Final, is_reading_select, named_path, wants_more};
 use std::alloc::Global;
 
 const APPLICATION: u16 = 0x7FFF;
+
+const FILE_NOT_FOUND: u16 = 0x6A82;
 
 fn is_in_application(path: &Path) -> bool
     ensures { result ≡ is_application_path path.now }
@@ -118,7 +119,7 @@ pub fn refused_by(
     ensures { result ≡ spec.refused_by answered.now (option_copied selected.entry) readings.now }
 {
     if is_reading_select(&answered.command) {
-        if is_refused(answered) || wants_more(answered.response.sw.0) || has_bad_fcp(answered) {
+        if answered.is_refused() || wants_more(answered.response.sw) || has_bad_fcp(answered) {
             return refused_select(answered);
         }
     } else if is_basic_read(&answered.command) && !answered.response.sw.is_success() {

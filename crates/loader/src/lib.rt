@@ -5,9 +5,9 @@ mod ending;
 mod reading;
 mod readings;
 mod reads;
-mod words;
+mod same;
 
 pub use ending::{completed_by, has_bad_fcp, refused_by, tells_no_file};
 pub use reading::{Reading, Readings, RefusedReading};
-pub use readings::{read_on, reading_at, reading_of};
+pub use readings::{drop_spoiled, read_on, reading_at, reading_of};
 pub use reads::{is_readable, read_number, reads_needed};

@@ -7,11 +7,11 @@ ghost use Rattle.loader.specs.Reading as spec;
 ghost use Rattle.loader.specs.Values as values;
 
 use crate::reads::{content_len, is_readable, read_number, reads_needed};
-use crate::words::{is_reading_select, named_path, same_command, wants_more};
+use crate::same::same_command;
 use apdu::{Bytes, Command, Memory, Path, Reserved, Sequence};
 use epoch_cache::CachedFile;
 use fcp::{Fcp, FileKind, Rows, read_fcp};
-use link::Final;
+use link::{Final, named_path};
 use std::alloc::Global;
 use std::marker::Model;
 

@@ -1,13 +1,13 @@
 // The files that a job reads one beside another.
-ghost use Rattle.std.specs.Prelude.{◌≡◌, ◌<◌, ◌≤◌, ◌+◌, true, false, option_and_then, IsOk, IfSome, IfOk, OnOk, OnErr};
+ghost use Rattle.std.specs.Prelude.{◌≡◌, ◌<◌, ◌≤◌, ◌+◌, true, false, option_and_then, not, filter, IsOk, IfSome, IfOk, OnOk, OnErr};
 ghost use Rattle.std.specs.Option.{option_copied};
 ghost use Rattle.link.specs.Commands as commands;
 ghost use Rattle.loader.specs.Reading as spec;
 
-use crate::words::{is_reading_select, named_path};
 use crate::{Reading, Readings};
 use apdu::{Command, Memory, Path, Reserved, Sequence};
-use link::Final;
+use epoch_cache::Touch;
+use link::{Final, is_reading_select, named_path};
 use std::alloc::Global;
 use std::mem;
 
@@ -150,4 +150,19 @@ pub fn read_on(
     let done = read_on_in(alloc, answered, selected, &mut list);
     *readings = list.into_sequence();
     done
+}
+
+fn keep_unspoiled(touch: &Touch, selected: Option<&Path>, readings: &mut Vec<Reading>)
+    ensures { readings.new.items ≡ spec.unspoiled touch.now (option_copied selected.entry) readings.old.items }
+{
+    readings.retain(|g| !touch.spoils(selected, g.path()));
+}
+
+/// Drops the readings of what moved or was written, which are to begin anew. This takes no memory.
+pub fn drop_spoiled(alloc: Global, touch: &Touch, selected: Option<&Path>, readings: &mut Readings)
+    ensures { readings.new ≡ spec.unspoiled touch.now (option_copied selected.entry) readings.old }
+{
+    let mut items = mem::replace(readings, Sequence::new(alloc)).into_vec();
+    keep_unspoiled(touch, selected, &mut items);
+    *readings = Sequence::from_vec(items);
 }
