@@ -1,0 +1,4 @@
+pub mod Walk
+pub mod Selections
+pub mod Steps
+pub mod Tracking

@@ -13,7 +13,7 @@ use arrayvec::ArrayVec;
 
 const GET_RESPONSE: u8 = 0xC0;
 
-const VERIFY: u8 = 0x20;
+pub const VERIFY: u8 = 0x20;
 
 const MOST_EXCHANGES: u16 = 4;
 
