@@ -1,7 +1,7 @@
 // The files whose rows are current, and how they change.
-ghost use Rattle.std.specs.Prelude.{◌≡◌, [], OnOk, OnErr, map, filter, not};
+ghost use Rattle.std.specs.Prelude.{◌≡◌, ◌≤◌, OnOk, OnErr, map, vec_len};
+ghost use Rattle.std.specs.Vec.{vec_capacity};
 ghost use Rattle.std.specs.Option.{option_copied};
-ghost use Rattle.epoch_cache.specs.declared.cached.CachedFile.{CachedFile};
 ghost use Rattle.epoch_cache.specs.Cache as spec;
 
 use crate::lists::{Change, change_each};
@@ -50,7 +50,9 @@ fn keep_unmoved(touch: &Touch, files: &mut Vec<CachedFile>)
 }
 
 fn keep_others(path: &Path, files: &mut Vec<CachedFile>)
-    ensures { files.new.items ≡ spec.without_file path.now files.old.items }
+    ensures items { files.new.items ≡ spec.without_file path.now files.old.items }
+    ensures bound { vec_len files.new ≤ vec_len files.old }
+    ensures room { vec_capacity files.new ≡ vec_capacity files.old }
 {
     files.retain(|other| !is_of(path, other));
 }
@@ -73,12 +75,25 @@ pub fn forget_file(alloc: Global, path: &Path, files: &mut CachedFiles)
     *files = Sequence::from_vec(items);
 }
 
+fn put_last(file: CachedFile, files: &mut Vec<CachedFile>) -> Result<(), Memory>
+    ensures ok { OnOk result (files.new.items ≡ spec.with_file file files.old.items) }
+    ensures err { OnErr result (files.new.items ≡ files.old.items) }
+{
+    files.reserve(1)?;
+    keep_others(&file.path, files);
+    let _ = files.push(file);
+    Ok(())
+}
+
 /// Puts a file, in the place of the one of its path.
 pub fn put_file(alloc: Global, file: CachedFile, files: &mut CachedFiles) -> Result<(), Memory>
-    ensures { OnOk result (files.new ≡ spec.with_file file files.old) }
+    ensures ok { OnOk result (files.new ≡ spec.with_file file files.old) }
+    ensures err { OnErr result (files.new ≡ files.old) }
 {
-    forget_file(alloc, &file.path, files);
-    files.push(file)
+    let mut items = mem::replace(files, Sequence::new(alloc)).into_vec();
+    let put = put_last(file, &mut items);
+    *files = Sequence::from_vec(items);
+    put
 }
 
 /// Puts the file of a reading that was completed.
@@ -87,7 +102,8 @@ pub fn put_completed(
     completed: Option<CachedFile>,
     files: &mut CachedFiles,
 ) -> Result<(), Memory>
-    ensures { OnOk result (files.new ≡ spec.with_completed completed files.old) }
+    ensures ok { OnOk result (files.new ≡ spec.with_completed completed files.old) }
+    ensures err { OnErr result (files.new ≡ files.old) }
 {
     match completed {
         None => Ok(()),

@@ -1,13 +1,16 @@
 //! The files whose rows are current, what moves them, and the epochs of a run.
 #![tactic(auto)]
 
+mod cache;
 mod cached;
 mod files;
 mod lists;
 mod past;
 mod refresh;
 mod touch;
+mod versions;
 
+pub use cache::Cache;
 pub use cached::{CachedFile, CachedFiles, Touch, Written};
 pub use files::{
     all_current, exchange_files, first_missing, forget_file, forget_moved, is_current, is_row_of,
@@ -16,3 +19,4 @@ pub use files::{
 pub use past::Past;
 pub use refresh::{asks_reset, handed_refresh, is_moved_by, is_refreshed};
 pub use touch::is_update;
+pub use versions::Versions;

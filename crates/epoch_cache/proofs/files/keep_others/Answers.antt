@@ -4,5 +4,5 @@ use Rattle.epoch_cache.specs.declared.cached.CachedFile.{CachedFile}
 use Rattle.epoch_cache.specs.Cache.{is_of}
 use Rattle.epoch_cache.proofs.files.keep_others.Goals as goal
 
-pub returns : goal.returns
-returns c = filter_same _ (λ (file : CachedFile). not (is_of c.args.path.now file)) _ (λ x b f' t. search rules) _ _ c.retain.ensures.filtered
+pub returns-clause-items : goal.returns-clause-items
+returns-clause-items c = filter_same _ (λ (file : CachedFile). not (is_of c.args.path.now file)) _ (λ x b f' t. search rules) _ _ c.retain.ensures.filtered
