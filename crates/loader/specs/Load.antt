@@ -16,13 +16,14 @@ use Rattle.link.specs.declared.chain.Chain.{Chain}
 use Rattle.link.specs.declared.chain.Final.{Final}
 use Rattle.link.specs.Commands.{chain_after, final_after, selection_after, is_at, is_refused, is_path_select, is_reading_select, select_for_reading, select_only}
 use Rattle.epoch_cache.specs.declared.cached.CachedFile.{CachedFile}
-use Rattle.epoch_cache.specs.Cache.{with_completed, first_missing}
+use Rattle.epoch_cache.specs.Cache.{with_completed, all_current}
 use Rattle.loader.specs.declared.stage.Stage.{Stage}
 use Rattle.loader.specs.declared.stage.Stage.TheVariants.{Fresh, Next, Over}
 use Rattle.loader.specs.declared.stage.LoadError.{LoadError}
 use Rattle.loader.specs.declared.stage.LoadError.TheVariants as error
 use Rattle.loader.specs.declared.stage.LoadTurn.{LoadTurn}
 use Rattle.loader.specs.declared.stage.LoadTurn.TheVariants.{Ready, Going}
+use Rattle.loader.specs.declared.turning.Turning.{Turning}
 use Rattle.loader.specs.Values.{ReadingValue}
 use Rattle.loader.specs.Reading.{reading_of, next_read, readings_after, completed_by}
 
@@ -138,3 +139,37 @@ AreDue path (step ∷ steps) l = (load_due path l ≡ Some step.command) × AreD
 
 abbrev pub load_begun : Option (List ℕ) → List CachedFile → List ReadingValue → ℕ → Load
 load_begun selected files readings events = record { chain = None; stage = Fresh; selected = selected; files = files; readings = readings; events = events; refused = None }
+
+-- behind the steps of a turn that reads this path; nothing is sent where there is none
+abbrev pub load_behind : Option (List ℕ) → List Step → Load → Load
+load_behind None steps l = l
+load_behind (Some path) steps l = load_after path steps l
+
+-- each step was due, of which there are none where no path is to be read
+abbrev pub IsDue : Option (List ℕ) → List Step → Load → Type 0
+IsDue None steps l = steps ≡ []
+IsDue (Some path) steps l = AreDue path steps l
+
+-- no further command is due
+abbrev pub IsOver : Option (List ℕ) → Load → Type 0
+IsOver None l = Unit {0}
+IsOver (Some path) l = load_due path l ≡ None
+
+-- what a turn answers: why it was refused, or else whether all is current
+abbrev pub load_answer : List (List ℕ) → Option LoadError → List CachedFile → Result LoadTurn LoadError
+load_answer paths (Some e) files = Err e
+load_answer paths None files = if all_current files paths then Ok Ready else Ok Going
+
+-- where memory did not run out
+abbrev pub HadMemory : Result LoadTurn LoadError → Type 0 → Type 0
+HadMemory (Ok turn) fact = fact
+HadMemory (Err error.Memory) fact = Unit {0}
+HadMemory (Err error.Slot) fact = fact
+HadMemory (Err (error.Status sw)) fact = fact
+HadMemory (Err (error.BadFcp e)) fact = fact
+HadMemory (Err (error.Loop sw)) fact = fact
+
+-- ---- a turn of the code
+
+abbrev pub load_of : Turning → List CachedFile → List ReadingValue → Load
+load_of t files readings = record { chain = t.chain; stage = t.stage; selected = t.selection; files = files; readings = readings; events = t.events; refused = t.refused }
