@@ -1,17 +1,20 @@
 -- Steps of two calls, one behind the other.
-use Rattle.std.proofs.Common.{◌≡◌, ℕ, ◌==◌, ◌&&◌, Bool, true, false, List, [], ◌∷◌, ◌++◌, length, drop, suc, ◌+◌, ◌<◌, ◌≤◌, arith, Option, Some, None, unwrap_or, option_map, IfSome, if◌then◌else◌, Result, Ok, Err, refl, sym, ap, ◌∙◌, subst, true≢false, eq-eqb}
+use Rattle.std.proofs.Common.{◌≡◌, ℕ, ◌==◌, ◌&&◌, Bool, true, false, List, [], ◌∷◌, ◌++◌, length, drop, suc, ◌+◌, ◌<◌, ◌≤◌, arith, Option, Some, None, unwrap_or, option_map, IfSome, IfErr, ◌-◌, not, nat_lt, if◌then◌else◌, Result, Ok, Err, refl, sym, ap, ◌∙◌, subst, true≢false, eq-eqb}
+use Rattle.std.specs.Prelude.{slice_get}
 use Rattle.std.proofs.Math.Seq.{drop-append_seam}
-use Rattle.std.proofs.lemmas.List.{append_assoc}
+use Rattle.std.proofs.lemmas.Bool.{ltb-false}
+use Rattle.std.proofs.lemmas.List.{append_assoc, length-append}
 use Rattle.apdu.specs.Values.{CommandValue, ResponseValue}
 use Rattle.apdu.specs.Words.{same_bytes, same_number}
-use Rattle.apdu.specs.Apdu.{same_command, is_success}
+use Rattle.apdu.specs.Apdu.{same_command, is_success, wants_more, verify_ins}
 use Rattle.card_model.specs.declared.slot.SlotFault.{SlotFault}
+use Rattle.link.specs.declared.exchanges.LinkError.TheVariants as error
 use Rattle.link.specs.declared.file.FileAnswer.{FileAnswer}
-use Rattle.link.specs.Commands.{continued, select_only, is_at}
+use Rattle.link.specs.Commands.{most_exchanges, continued, count_of, chain_count, chain_after, asks_more, select_only, is_at}
 use Rattle.card_model.specs.declared.trail.Step.{Step}
 use Rattle.link.specs.declared.chain.Chain.{Chain}
 use Rattle.link.specs.declared.exchanges.LinkError.{LinkError}
-use Rattle.link.specs.Exchanges.{Grows, added, answer_to, file_exchanged, chain_of, answer_of, exchanged, selection_by, selection_over, Seen, Exchanges, Plays}
+use Rattle.link.specs.Exchanges.{Grows, Ends, IfLoop, last_answer, added, answer_to, file_exchanged, chain_of, answer_of, exchanged, selection_by, selection_over, Seen, Exchanges, Plays}
 
 -- ---- a command is what it is
 
@@ -83,6 +86,49 @@ first-grows most more old middle new step first grows less =
       front = grows.front ∙ ap (λ (xs : List Step). xs ++ added middle new) first ∙ append_assoc old (step ∷ []) (added middle new) ∙ ap (λ (xs : List Step). old ++ xs) (sym e);
       few = let n : length (added old new) ≡ suc (length (added middle new)) = ap length e in let few : length (added middle new) ≤ more = grows.few in omega (arith, n, few, less);
     }
+
+-- ---- a last exchange that asks for one more
+
+not_going : (b : Bool) (chain : Chain) → (if b then Some chain else None) ≡ None → b ≡ false
+not_going true chain h = absurd (cc)
+not_going false chain h = refl
+
+no_room : (wants room other : Bool) → wants && other ≡ true → wants && room && other ≡ false → room ≡ false
+no_room true true true h e = e
+no_room true true false h e = absurd (true≢false (sym h))
+no_room true false other h e = refl
+no_room false room other h e = absurd (true≢false (sym h))
+
+fourth : (due : CommandValue) (before : Option Chain) (r : ResponseValue) → continued due before ≡ before → chain_after due r before ≡ None → wants_more r.sw && not (due.ins == verify_ins) ≡ true → most_exchanges ≤ count_of before + 1
+fourth due before r same none wants =
+    let count : chain_count due before ≡ count_of before = ap count_of same in
+    let more : asks_more (chain_count due before + 1) due r ≡ false = not_going (asks_more (chain_count due before + 1) due r) _ none in
+    let past : most_exchanges ≤ chain_count due before + 1 = ltb-false (chain_count due before + 1) most_exchanges (no_room (wants_more r.sw) (nat_lt (chain_count due before + 1) most_exchanges) (not (due.ins == verify_ins)) wants more) in
+    omega (arith, count, past)
+
+looping : (b : Bool) (r : ResponseValue) (p : Type 0) → (b ≡ true → p) → IfErr (if b then Err (error.Loop (record { 0 = r.sw })) else Ok r) (λ e. IfLoop e p)
+looping true r p h = h refl
+looping false r p h = tt
+
+last-found : (steps : List Step) (step : Step) → slice_get (steps ++ step ∷ []) (length steps) ≡ Some step
+last-found [] step = refl
+last-found (s ∷ steps) step = last-found steps step
+
+last-is : (steps : List Step) (step : Step) → last_answer (steps ++ step ∷ []) ≡ Some (answer_of step.command step.outcome)
+last-is steps step =
+    let more : length (steps ++ step ∷ []) ≡ length steps + 1 = length-append steps (step ∷ []) in
+    let place : length (steps ++ step ∷ []) - 1 ≡ length steps = omega (arith, more) in
+    ap (λ (i : ℕ). option_map (λ (s : Step). answer_of s.command s.outcome) (slice_get (steps ++ step ∷ []) i)) place
+    ∙ ap (option_map (λ (s : Step). answer_of s.command s.outcome)) (last-found steps step)
+
+pub one-ends : (old new : List Step) (due : CommandValue) (before : Option Chain) (r : ResponseValue) (result : Result ResponseValue LinkError) → new ≡ old ++ made due (Ok r) ∷ [] → continued due before ≡ before → count_of before < most_exchanges → chain_after due r before ≡ None → result ≡ answer_of due (Ok r) → Ends (most_exchanges - count_of before) old new result
+one-ends old new due before r result e same few none is = record {
+  last = ap last_answer e ∙ last-is old (made due (Ok r)) ∙ ap (λ (x : Result ResponseValue LinkError). Some x) (sym is);
+  none_left = subst (λ (x : Result ResponseValue LinkError). IfErr x (λ y. IfLoop y (length (added old new) ≡ most_exchanges - count_of before))) (sym is)
+      (looping (wants_more r.sw && not (due.ins == verify_ins)) r (length (added old new) ≡ most_exchanges - count_of before)
+      (λ wants. let one : length (added old new) ≡ 1 = ap length (ap (added old) e ∙ added-behind old (made due (Ok r) ∷ [])) in
+      let last : most_exchanges ≤ count_of before + 1 = fourth due before r same none wants in omega (arith, one, last, few)));
+}
 
 -- ---- the chain behind an exchange
 

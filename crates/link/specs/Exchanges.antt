@@ -1,5 +1,5 @@
 -- What a call sends: the steps that it adds to a trail, what they come to, and what the slot tells behind them.
-use Rattle.std.specs.Prelude.{◌≡◌, ℕ, ◌≤◌, ◌==◌, ◌&&◌, not, if◌then◌else◌, List, [], ◌∷◌, ◌++◌, length, drop, Option, Some, None, unwrap_or, option_map, Result, Ok, Err, IfOk, OnErr}
+use Rattle.std.specs.Prelude.{◌≡◌, ℕ, ◌≤◌, ◌==◌, ◌&&◌, not, if◌then◌else◌, List, [], ◌∷◌, ◌++◌, length, drop, slice_get, ◌-◌, Option, Some, None, unwrap_or, option_map, Result, Ok, Err, IfOk, IfErr, OnErr}
 use Rattle.apdu.specs.Values.{CommandValue, ResponseValue}
 use Rattle.apdu.specs.Apdu.{verify_ins, wants_more, is_success, same_command}
 use Rattle.apdu.specs.Stream.{HasCause, Rose}
@@ -36,6 +36,19 @@ abbrev pub answer_of : CommandValue → Result ResponseValue SlotFault → Resul
 answer_of c (Ok r) = if wants_more r.sw && not (c.ins == verify_ins) then Err (error.Loop (record { 0 = r.sw })) else Ok r
 answer_of c (Err fault) = Err error.Slot
 
+-- what the last step comes to
+abbrev pub last_answer : List Step → Option (Result ResponseValue LinkError)
+last_answer steps = option_map (λ (step : Step). answer_of step.command step.outcome) (slice_get steps (length steps - 1))
+
+abbrev pub IfLoop : LinkError → Type 0 → Type 0
+IfLoop error.Slot p = Unit {0}
+IfLoop (error.Loop sw) p = p
+
+-- a call's answer is what the last step comes to, and no exchange is left where it is that one more is asked for
+pub record Ends (left : ℕ) (old new : List Step) (result : Result ResponseValue LinkError) : Type 0 where
+  pub last : last_answer new ≡ Some result
+  pub none_left : IfErr result (λ e. IfLoop e (length (added old new) ≡ left))
+
 -- steps that begin with the exchanges of a command, due behind a chain: what these come to, and the steps behind them
 abbrev pub exchanged : CommandValue → Option Chain → List Step → Option (Result ResponseValue LinkError × List Step)
 exchanged due before [] = None
@@ -50,6 +63,12 @@ abbrev pub answer_to : Option (Result ResponseValue LinkError × List Step) → 
 answer_to None = None
 answer_to (Some (Ok r, steps)) = Some (Ok (answer.Answered r), steps)
 answer_to (Some (Err e, steps)) = Some (Err e, steps)
+
+-- the last response, whichever command it answers
+abbrev pub response_in : Result FileAnswer LinkError → Result ResponseValue LinkError
+response_in (Ok (answer.Answered r)) = Ok r
+response_in (Ok (answer.Refused r)) = Ok r
+response_in (Err e) = Err e
 
 -- behind the exchanges of a SELECT that succeeded stand those of the command
 abbrev pub behind_select : CommandValue → Option (Result ResponseValue LinkError × List Step) → Option (Result FileAnswer LinkError × List Step)

@@ -2,7 +2,7 @@
 ghost use Rattle.std.specs.Prelude.{◌≡◌, ◌≤◌, ◌<◌, ◌+◌, ◌-◌, ◌∷◌, ◌++◌, [], None, Some, Ok, IfSome, length};
 ghost use Rattle.std.specs.Option.{option_copied};
 ghost use Rattle.link.specs.Commands.{chain_after, continued, count_of, most_exchanges};
-ghost use Rattle.link.specs.Exchanges.{Grows, Plays, Exchanges, FailsOnFault, added, answer_of, exchanged, seen};
+ghost use Rattle.link.specs.Exchanges.{Grows, Ends, Plays, Exchanges, FailsOnFault, added, answer_of, exchanged, seen};
 
 use crate::chain::{Chain, VERIFY};
 use crate::status::wants_more;
@@ -30,6 +30,7 @@ pub fn transmit<S: Slot>(
     requires { length trail.old ≤ 12 }
     ensures trail { Grows 4 trail.old trail.new }
     ensures sends { exchanged command.now None (added trail.old trail.new) ≡ Some (result, []) }
+    ensures ends { Ends most_exchanges trail.old trail.new result }
     ensures slot { Plays (seen (S.world slot.old) (S.plan slot.old) (S.faults slot.old))
         (added trail.old trail.new)
         (seen (S.world slot.new) (S.plan slot.new) (S.faults slot.new)) }
@@ -50,6 +51,7 @@ fn go_on<S: Slot>(
     requires room { length trail.old ≤ 12 + count_of (option_copied before) }
     ensures trail { Grows (most_exchanges - count_of (option_copied before.entry)) trail.old trail.new }
     ensures sends { exchanged due.now (option_copied before.entry) (added trail.old trail.new) ≡ Some (result, []) }
+    ensures ends { Ends (most_exchanges - count_of (option_copied before.entry)) trail.old trail.new result }
     ensures slot { Plays (seen (S.world slot.old) (S.plan slot.old) (S.faults slot.old))
         (added trail.old trail.new)
         (seen (S.world slot.new) (S.plan slot.new) (S.faults slot.new)) }

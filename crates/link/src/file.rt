@@ -1,7 +1,7 @@
 // Commands to the file of a path.
 ghost use Rattle.std.specs.Prelude.{◌≡◌, ◌≤◌, [], None, Some, length};
 ghost use Rattle.link.specs.Commands as rule;
-ghost use Rattle.link.specs.Exchanges.{Grows, Plays, FailsOnFault, added, answer_to, exchanged, file_exchanged, seen, selection_over};
+ghost use Rattle.link.specs.Exchanges.{Grows, Ends, Plays, FailsOnFault, added, answer_to, exchanged, file_exchanged, last_answer, response_in, seen, selection_over};
 ghost use Rattle.link.specs.Selected.{KeepsTrack};
 
 use crate::exchanges::{LinkError, transmit};
@@ -30,6 +30,7 @@ pub fn select_fcp<S: Slot>(
     ensures trail { Grows 4 trail.old trail.new }
     ensures sends { exchanged (rule.select_for_reading path.now) None (added trail.old trail.new)
         ≡ Some (result, []) }
+    ensures ends { Ends rule.most_exchanges trail.old trail.new result }
     ensures slot { Plays (seen (S.world slot.old) (S.plan slot.old) (S.faults slot.old))
         (added trail.old trail.new)
         (seen (S.world slot.new) (S.plan slot.new) (S.faults slot.new)) }
@@ -53,6 +54,7 @@ pub fn file_command<S: Slot>(
     ensures trail { Grows 8 trail.old trail.new }
     ensures sends { file_exchanged path.now command.now selection.old (added trail.old trail.new)
         ≡ Some (result, []) }
+    ensures last { last_answer trail.new ≡ Some (response_in result) }
     ensures slot { Plays (seen (S.world slot.old) (S.plan slot.old) (S.faults slot.old))
         (added trail.old trail.new)
         (seen (S.world slot.new) (S.plan slot.new) (S.faults slot.new)) }
@@ -80,6 +82,7 @@ fn answered<S: Slot>(
     requires { length trail.old ≤ 12 }
     ensures trail { Grows 4 trail.old trail.new }
     ensures sends { answer_to (exchanged command.now None (added trail.old trail.new)) ≡ Some (result, []) }
+    ensures last { last_answer trail.new ≡ Some (response_in result) }
     ensures slot { Plays (seen (S.world slot.old) (S.plan slot.old) (S.faults slot.old))
         (added trail.old trail.new)
         (seen (S.world slot.new) (S.plan slot.new) (S.faults slot.new)) }
@@ -101,6 +104,7 @@ fn transmit_followed<S: Slot>(
     requires { length trail.old ≤ 12 }
     ensures trail { Grows 4 trail.old trail.new }
     ensures sends { exchanged command.now None (added trail.old trail.new) ≡ Some (result, []) }
+    ensures ends { Ends rule.most_exchanges trail.old trail.new result }
     ensures slot { Plays (seen (S.world slot.old) (S.plan slot.old) (S.faults slot.old))
         (added trail.old trail.new)
         (seen (S.world slot.new) (S.plan slot.new) (S.faults slot.new)) }

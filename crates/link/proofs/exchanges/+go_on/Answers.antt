@@ -1,7 +1,7 @@
 use Rattle.std.proofs.Common.{◌≡◌, [], Some, Ok, Err, refl, sym, ap, ◌∙◌, ◌-◌, ◌<◌, arith}
 use Rattle.std.specs.Option.{option_copied}
 use Rattle.link.specs.Commands.{count_of}
-use Rattle.link.proofs.Steps.{last-sent, more-sent, first-grows}
+use Rattle.link.proofs.Steps.{last-sent, more-sent, first-grows, one-ends}
 use Rattle.link.proofs.exchanges.+go_on.Goals as goal
 
 pub returns-in-Err-clause-sends : goal.returns-in-Err-clause-sends
@@ -15,3 +15,6 @@ returns-in-Some-clause-sends g t c = more-sent _ _ _ _ _ _ c.in-Some.chain _ c.i
 
 pub returns-in-Some-clause-trail : goal.returns-in-Some-clause-trail
 returns-in-Some-clause-trail g t c = first-grows _ _ _ _ _ _ c.in-Ok.ensures.step c.go_on.ensures.trail (grind arith)
+
+pub returns-in-None-clause-ends : goal.returns-in-None-clause-ends
+returns-in-None-clause-ends g t c = one-ends _ _ _ _ c.in-Ok.response _ c.in-Ok.ensures.step c.requires.due c.requires.few (sym c.in-None.ensures.value) c.final_response.ensures
