@@ -155,6 +155,17 @@ abbrev pub IsOver : Option (List ℕ) → Load → Type 0
 IsOver None l = Unit {0}
 IsOver (Some path) l = load_due path l ≡ None
 
+-- a command that is due behind another is no SELECT
+abbrev pub IsReadNext : Stage → Type 0
+IsReadNext Fresh = ⊥
+IsReadNext (Next c) = is_path_select c ≡ false
+IsReadNext Over = Unit {0}
+
+abbrev pub due_next : Stage → Option CommandValue
+due_next Fresh = None
+due_next (Next c) = Some c
+due_next Over = None
+
 -- what a turn answers: why it was refused, or else whether all is current
 abbrev pub load_answer : List (List ℕ) → Option LoadError → List CachedFile → Result LoadTurn LoadError
 load_answer paths (Some e) files = Err e
@@ -168,6 +179,13 @@ HadMemory (Err error.Slot) fact = fact
 HadMemory (Err (error.Status sw)) fact = fact
 HadMemory (Err (error.BadFcp e)) fact = fact
 HadMemory (Err (error.Loop sw)) fact = fact
+
+-- a turn has come to this state, in which nothing more is due, and answers what that comes to
+pub record HasTurned (path : Option (List ℕ)) (paths : List (List ℕ)) (l : Load) (files : List CachedFile) (readings : List ReadingValue) (result : Result LoadTurn LoadError) : Type 0 where
+  pub files : files ≡ l.files
+  pub readings : readings ≡ l.readings
+  pub over : IsOver path l
+  pub answer : result ≡ load_answer paths l.refused l.files
 
 -- ---- a turn of the code
 

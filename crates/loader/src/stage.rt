@@ -1,4 +1,6 @@
 // What a turn of a load comes to.
+ghost use Rattle.std.specs.Prelude.{◌≡◌};
+ghost use Rattle.loader.specs.Load.{due_next};
 
 use apdu::{Command, Sw};
 use fcp::FcpError;
@@ -13,6 +15,18 @@ pub enum Stage {
     Next(Command),
     /// No further command is due.
     Over,
+}
+
+impl Stage {
+    /// The command that is due behind another.
+    pub(crate) fn next(&self) -> Option<Command>
+        ensures { result ≡ due_next self.now }
+    {
+        match self {
+            Stage::Next(command) => Some(command.copy()),
+            Stage::Fresh | Stage::Over => None,
+        }
+    }
 }
 
 /// What a turn that was not refused leaves.
