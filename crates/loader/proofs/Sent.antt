@@ -1,6 +1,6 @@
 -- The exchanges of a command are those that are due, and what they leave of a turn.
 use Rattle.std.proofs.Common.{◌≡◌, ℕ, ◌==◌, ◌&&◌, ◌+◌, ◌-◌, ◌≤◌, ◌++◌, length, arith, Bool, true, false, if◌then◌else◌, List, [], ◌∷◌, Option, Some, None, unwrap_or, option_map, Result, Ok, Err, refl, sym, ap, ◌∙◌, subst}
-use Rattle.std.specs.Prelude.{option_and_then}
+use Rattle.std.specs.Prelude.{option_and_then, OnOk}
 use Rattle.std.specs.Cmp.Lexicographic.{same_text}
 use Rattle.std.proofs.Math.Seq.{drop-append_seam}
 use Rattle.std.proofs.lemmas.Bool.{and_parts, eqb-true}
@@ -136,8 +136,12 @@ pub record Sent (path : List ℕ) (steps : List Step) (first : CommandValue) (l 
 due-behind : (path : List ℕ) (l : Load) (chain : Chain) → l.chain ≡ Some chain → load_due path l ≡ Some chain.next
 due-behind path l chain k = ap (λ (o : Option Chain). due_by_chain path l o) k
 
-no-more : (answer r : Result ResponseValue LinkError) (steps : List Step) → Some (answer, steps) ≡ Some (r, []) → steps ≡ []
-no-more answer r steps h = cc
+abbrev steps_in : Option (Result ResponseValue LinkError × List Step) → List Step
+steps_in None = []
+steps_in (Some p) = p.1
+
+no-more : (answer r : Result ResponseValue LinkError) (steps : List Step) → ◌≡◌ {A = Option (Result ResponseValue LinkError × List Step)} (Some (answer, steps)) (Some (r, [])) → steps ≡ []
+no-more answer r steps h = ap (λ (o : Option (Result ResponseValue LinkError × List Step)). steps_in o) h
 
 sent-rest : (o : Option Chain) (path : List ℕ) (steps : List Step) (first : CommandValue) (l : Load) (answer r : Result ResponseValue LinkError) → l.chain ≡ o → (o ≡ None → Left first l.stage) → ((chain : Chain) → o ≡ Some chain → exchanged chain.next (Some chain) steps ≡ Some (r, []) → Sent path steps first l) → unwrap_or (option_map (λ (chain : Chain). exchanged chain.next (Some chain) steps) o) (Some (answer, steps)) ≡ Some (r, []) → Sent path steps first l
 sent-rest None path steps first l answer r chain left more h =
@@ -161,7 +165,14 @@ sent (step ∷ steps) path c first l r due is h =
         (behind-test (same_command step.command c) rest (r, []) h) in
     record { due = (due ∙ ap (λ (d : CommandValue). Some d) (sym e), s.due); chain = s.chain; left = s.left }
 
+pub sent-fresh : (steps : List Step) (path : List ℕ) (c : CommandValue) (l : Load) (r : Result ResponseValue LinkError) → l.chain ≡ None → load_due path l ≡ Some c → exchanged c None steps ≡ Some (r, []) → Sent path steps c l
+sent-fresh steps path c l r none due h = sent steps path c c l r due (ap (chain_first c) none) (ap (λ (o : Option Chain). exchanged c o steps) none ∙ h)
+
 -- ---- a call behind another
+
+pub on-ok : {T E : Type 0} (r : Result T E) (P Q : Type 0) → (P → Q) → OnOk r P → OnOk r Q
+on-ok (Ok x) P Q f p = f p
+on-ok (Err e) P Q f p = tt
 
 load-both : (path : List ℕ) (xs ys : List Step) (l : Load) → load_after path (xs ++ ys) l ≡ load_after path ys (load_after path xs l)
 load-both path [] ys l = refl

@@ -181,9 +181,9 @@ HadMemory (Err (error.BadFcp e)) fact = fact
 HadMemory (Err (error.Loop sw)) fact = fact
 
 -- a turn has come to this state, in which nothing more is due, and answers what that comes to
-pub record HasTurned (path : Option (List ℕ)) (paths : List (List ℕ)) (l : Load) (files : List CachedFile) (readings : List ReadingValue) (result : Result LoadTurn LoadError) : Type 0 where
-  pub files : files ≡ l.files
-  pub readings : readings ≡ l.readings
+pub record HasTurned (path : Option (List ℕ)) (paths : List (List ℕ)) (l : Load) (new_files : List CachedFile) (new_readings : List ReadingValue) (result : Result LoadTurn LoadError) : Type 0 where
+  pub files : new_files ≡ l.files
+  pub readings : new_readings ≡ l.readings
   pub over : IsOver path l
   pub answer : result ≡ load_answer paths l.refused l.files
 

@@ -1,5 +1,5 @@
 // A load, turn by turn.
-ghost use Rattle.std.specs.Prelude.{◌≡◌, ◌+◌, ◌<◌, ◌≤◌, ◌^◌, [], false, length, Some, None, Ok, OnOk, IfOk};
+ghost use Rattle.std.specs.Prelude.{◌≡◌, ◌+◌, ◌<◌, ◌≤◌, ◌^◌, [], false, drop, length, Some, None, Ok, OnOk, IfOk};
 ghost use Rattle.std.specs.Option.{option_copied};
 ghost use Rattle.epoch_cache.specs.Cache.{first_missing, with_completed};
 ghost use Rattle.epoch_cache.specs.Places.{highest_version};
@@ -62,6 +62,14 @@ fn put_completed(completed: Option<CachedFile>, cache: &mut Cache) -> Result<(),
             cache.put(&path, content, arr)
         }
     }
+}
+
+// The steps of a trail behind so many.
+fn steps_from(trail: &Trail, from: usize) -> &[Step]
+    requires { from ≤ length trail.now }
+    ensures { result.now ≡ drop from trail.now }
+{
+    &trail.as_slice()[from..]
 }
 
 // The first path that is not current.
@@ -194,7 +202,7 @@ impl LoadJob {
     {
         let from = trail.len();
         let _ = transmit(slot, command, trail);
-        self.follow_steps(path, &trail.as_slice()[from..], turning, cache)
+        self.follow_steps(path, steps_from(trail, from), turning, cache)
     }
 
     // The command that reads the path on, and behind its SELECT the first READ.
@@ -259,7 +267,7 @@ impl LoadJob {
     {
         let from = trail.len();
         let turned = self.turned(slot, selection, cache, events, trail);
-        selection.follow_steps(&trail.as_slice()[from..]);
+        selection.follow_steps(steps_from(trail, from));
         turned
     }
 
