@@ -1,5 +1,5 @@
 -- Steps of two calls, one behind the other.
-use Rattle.std.proofs.Common.{◌≡◌, ℕ, ◌==◌, ◌&&◌, Bool, true, false, List, [], ◌∷◌, ◌++◌, length, drop, suc, ◌+◌, ◌<◌, ◌≤◌, arith, Option, Some, None, unwrap_or, option_map, IfSome, IfErr, ◌-◌, not, nat_lt, if◌then◌else◌, Result, Ok, Err, refl, sym, ap, ◌∙◌, subst, true≢false, eq-eqb}
+use Rattle.std.proofs.Common.{◌≡◌, ℕ, ◌==◌, ◌&&◌, Bool, true, false, List, [], ◌∷◌, ◌++◌, length, suc, ◌+◌, ◌<◌, ◌≤◌, arith, Option, Some, None, unwrap_or, option_map, IfSome, IfErr, ◌-◌, not, nat_lt, if◌then◌else◌, Result, Ok, Err, refl, sym, ap, ◌∙◌, subst, true≢false, eq-eqb}
 use Rattle.std.specs.Prelude.{slice_get}
 use Rattle.std.proofs.Math.Seq.{drop-append_seam}
 use Rattle.std.proofs.lemmas.Bool.{ltb-false}
@@ -14,7 +14,7 @@ use Rattle.link.specs.Commands.{most_exchanges, continued, count_of, chain_count
 use Rattle.card_model.specs.declared.trail.Step.{Step}
 use Rattle.link.specs.declared.chain.Chain.{Chain}
 use Rattle.link.specs.declared.exchanges.LinkError.{LinkError}
-use Rattle.link.specs.Exchanges.{Grows, Ends, IfLoop, last_answer, added, answer_to, file_exchanged, chain_of, answer_of, exchanged, selection_by, selection_over, Seen, Exchanges, Plays}
+use Rattle.link.specs.Exchanges.{Grows, Ends, IfLoop, last_answer, added, answer_to, file_exchanged, chain_of, answer_of, exchanged, selection_by, selection_over, Seen, Plays}
 
 -- ---- a command is what it is
 
@@ -26,7 +26,7 @@ number-refl : (n : Option ℕ) → same_number n n ≡ true
 number-refl None = refl
 number-refl (Some n) = eq-eqb n n refl
 
-command-refl : (c : CommandValue) → same_command c c ≡ true
+pub command-refl : (c : CommandValue) → same_command c c ≡ true
 command-refl c = rw (eq-eqb c.class c.class refl, eq-eqb c.ins c.ins refl, eq-eqb c.p1 c.p1 refl, eq-eqb c.p2 c.p2 refl, bytes-refl c.body, number-refl c.le) refl
 
 -- ---- what was added
@@ -35,7 +35,7 @@ added-behind : (old steps : List Step) → added old (old ++ steps) ≡ steps
 added-behind old steps = drop-append_seam old steps
 
 -- a call behind another adds its steps to those
-added-both : (old middle new : List Step) → middle ≡ old ++ added old middle → new ≡ middle ++ added middle new → added old new ≡ added old middle ++ added middle new
+pub added-both : (old middle new : List Step) → middle ≡ old ++ added old middle → new ≡ middle ++ added middle new → added old new ≡ added old middle ++ added middle new
 added-both old middle new first second =
     ap (added old) (second ∙ ap (λ (xs : List Step). xs ++ added middle new) first ∙ append_assoc old (added old middle) (added middle new))
     ∙ added-behind old (added old middle ++ added middle new)
@@ -47,7 +47,7 @@ more-behind true None answer r xs ys more h = ap (option_map (λ (p : Result Res
 more-behind true (Some chain) answer r xs ys more h = more chain h
 more-behind false o answer r xs ys more h = absurd (cc)
 
-exchanged-behind : (xs ys : List Step) (due : CommandValue) (before : Option Chain) (r : Result ResponseValue LinkError) → exchanged due before xs ≡ Some (r, []) → exchanged due before (xs ++ ys) ≡ Some (r, ys)
+pub exchanged-behind : (xs ys : List Step) (due : CommandValue) (before : Option Chain) (r : Result ResponseValue LinkError) → exchanged due before xs ≡ Some (r, []) → exchanged due before (xs ++ ys) ≡ Some (r, ys)
 exchanged-behind [] ys due before r h = absurd (cc)
 exchanged-behind (step ∷ xs) ys due before r h =
     more-behind (same_command step.command due) (chain_of step.command step.outcome before) (answer_of step.command step.outcome) r xs ys
@@ -148,11 +148,11 @@ file-sent old middle new path c select sel r result at is first second selected 
 
 -- ---- the selection and the slot
 
-over-both : (xs ys : List Step) (sel : Option (List ℕ)) → selection_over (xs ++ ys) sel ≡ selection_over ys (selection_over xs sel)
+pub over-both : (xs ys : List Step) (sel : Option (List ℕ)) → selection_over (xs ++ ys) sel ≡ selection_over ys (selection_over xs sel)
 over-both [] ys sel = refl
 over-both (step ∷ xs) ys sel = over-both xs ys (selection_by step sel)
 
-plays-both : (xs ys : List Step) (old middle new : Seen) → Plays old xs middle → Plays middle ys new → Plays old (xs ++ ys) new
+pub plays-both : (xs ys : List Step) (old middle new : Seen) → Plays old xs middle → Plays middle ys new → Plays old (xs ++ ys) new
 plays-both [] ys old middle new first second = subst (λ (s : Seen). Plays s ys new) first second
 plays-both (step ∷ xs) ys old middle new (between, (exchange, first)) second = (between, (exchange, plays-both xs ys between middle new first second))
 

@@ -9,8 +9,8 @@ use Rattle.card_model.specs.declared.world.World.{World}
 use Rattle.card_model.specs.Slot.{Answers, AnswersAt, MayHaveActed}
 use Rattle.card_model.specs.Step.{step, step_of_place, step_of_card, card_inside, on_card}
 use Rattle.link.specs.Commands.{selection_after}
-use Rattle.link.specs.Exchanges.{selection_of, selection_by, selection_over, Seen, Exchanges, Plays}
-use Rattle.link.specs.Selected.{Follows, FollowsInside, KeepsTrack}
+use Rattle.link.specs.Exchanges.{selection_of, selection_by, selection_over, Seen, Plays}
+use Rattle.link.specs.Selected.{FollowsInside, KeepsTrack}
 use Rattle.link.proofs.Selections.{card-follows}
 
 nothing-known : (o : Option CardState) → FollowsInside o None

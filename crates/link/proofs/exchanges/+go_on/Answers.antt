@@ -1,6 +1,4 @@
-use Rattle.std.proofs.Common.{◌≡◌, [], Some, Ok, Err, refl, sym, ap, ◌∙◌, ◌-◌, ◌<◌, arith}
-use Rattle.std.specs.Option.{option_copied}
-use Rattle.link.specs.Commands.{count_of}
+use Rattle.std.proofs.Common.{[], Some, refl, sym, ap, ◌∙◌, arith}
 use Rattle.link.proofs.Steps.{last-sent, more-sent, first-grows, one-ends}
 use Rattle.link.proofs.exchanges.+go_on.Goals as goal
 
