@@ -1,3 +1,4 @@
 pub mod EachItem
-pub mod Placed
 pub mod LookUps
+pub mod Placed
+pub mod Stored

@@ -1,6 +1,6 @@
 -- What is taken of a path behind a change of the files.
-use Rattle.std.proofs.Common.{◌≡◌, ℕ, zero, suc, Bool, true, false, not, ◌&&◌, List, [], ◌∷◌, ◌++◌, map, filter, Option, Some, None, refl, ap, sym, ◌∙◌, arith, subst}
-use Rattle.std.specs.Prelude.{find, option_map}
+use Rattle.std.proofs.Common.{◌≡◌, ℕ, Bool, true, false, ◌&&◌, List, [], ◌∷◌, map, Option, Some, None, refl, ap, sym, ◌∙◌, arith, subst}
+use Rattle.std.specs.Prelude.{option_map}
 use Rattle.std.specs.Cmp.Lexicographic.{bytes_decides}
 use Rattle.std.specs.Option.{option_or}
 use Rattle.std.proofs.lemmas.List.Folds.{find-append}
@@ -40,6 +40,7 @@ others_without path (f ∷ fs) other apart = by (is_of path f) refl (others_with
     kept : (b : Bool) → is_of other f ≡ b → taken other (without_file path fs) ≡ taken other fs → taken other (f ∷ without_file path fs) ≡ taken other (f ∷ fs)
     kept true q ih = rw q refl
     kept false q ih = rw q ih
+
     by : (b : Bool) → is_of path f ≡ b → taken other (without_file path fs) ≡ taken other fs → taken other (without_file path (f ∷ fs)) ≡ taken other (f ∷ fs)
     by true q ih = let away : is_of other f ≡ false = of_no_other path other f apart q in rw (q, away) ih
     by false q ih = rw q (kept (is_of other f) refl ih)

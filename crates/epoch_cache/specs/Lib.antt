@@ -1,2 +1,5 @@
 pub mod Cache
+pub mod Past
 pub mod Places
+pub mod Sessions
+pub mod Store

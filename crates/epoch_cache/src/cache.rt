@@ -52,9 +52,8 @@ impl Cache {
         ensures files { self.new.files ≡ self.old.files }
         ensures ok { OnOk result (self.new.places ≡ spec.with_place path.now self.old.places) }
         ensures err { OnErr result (self.new ≡ self.old) }
-        ensures bound {
-            spec.highest_version self.new.places ≡ spec.highest_version self.old.places
-        }
+        ensures bound { spec.highest_version self.new.places
+            ≡ spec.highest_version self.old.places }
     {
         self.versions.track(path)
     }
@@ -67,26 +66,17 @@ impl Cache {
     }
 
     /// Makes the rows of a path current, and gives it a place.
-    pub fn put(
-        &mut self,
-        path: &Path,
-        rows: Rows,
-        arr: Option<ArrRef>,
-    ) -> Result<(), Memory>
-        ensures files {
-            OnOk result (self.new.files
-                ≡ files.with_file (record { path = path.now; content = rows; arr = arr }) self.old.files)
-        }
+    pub fn put(&mut self, path: &Path, rows: Rows, arr: Option<ArrRef>) -> Result<(), Memory>
+        ensures files { OnOk result (self.new.files
+            ≡ files.with_file (record { path = path.now; content = rows; arr = arr })
+            self.old.files) }
         ensures places { OnOk result (self.new.places ≡ spec.with_place path.now self.old.places) }
-        ensures taken {
-            OnOk result (files.taken path.now self.new.files
-                ≡ Some (record { path = path.now; content = rows; arr = arr }))
-        }
+        ensures taken { OnOk result (files.taken path.now self.new.files
+            ≡ Some (record { path = path.now; content = rows; arr = arr })) }
         ensures others { OnOk result (KeepsOthers path.now self.old.files self.new.files) }
         ensures err { OnErr result (self.new.files ≡ self.old.files) }
-        ensures bound {
-            spec.highest_version self.new.places ≡ spec.highest_version self.old.places
-        }
+        ensures bound { spec.highest_version self.new.places
+            ≡ spec.highest_version self.old.places }
     {
         self.versions.track(path)?;
         let file = CachedFile {
@@ -114,19 +104,15 @@ impl Cache {
     /// Writes over a row, counted from 1, of the file of a path, where that is current and has a row so wide.
     pub fn patch(&mut self, path: &Path, row: u8, bytes: &[u8])
         requires { spec.highest_version self.old.places + 1 < 2 ^ 128 }
-        ensures files {
-            self.new.files ≡ map (files.patched_file path.now row bytes.now) self.old.files
-        }
+        ensures files { self.new.files
+            ≡ map (files.patched_file path.now row bytes.now) self.old.files }
         ensures places { self.new.places ≡ spec.raised_at path.now self.old.places }
-        ensures taken {
-            files.taken path.now self.new.files
-                ≡ option_map (files.patched_file path.now row bytes.now)
-                    (files.taken path.now self.old.files)
-        }
+        ensures taken { files.taken path.now self.new.files
+            ≡ option_map (files.patched_file path.now row bytes.now)
+            (files.taken path.now self.old.files) }
         ensures others { KeepsOthers path.now self.old.files self.new.files }
-        ensures bound {
-            spec.highest_version self.new.places ≤ spec.highest_version self.old.places + 1
-        }
+        ensures bound { spec.highest_version self.new.places
+            ≤ spec.highest_version self.old.places + 1 }
     {
         self.versions.raise(path);
         patch_file(self.alloc, path, row, bytes, &mut self.current);
@@ -139,9 +125,8 @@ impl Cache {
         ensures places { self.new.places ≡ spec.raised_at path.now self.old.places }
         ensures taken { files.taken path.now self.new.files ≡ None }
         ensures others { KeepsOthers path.now self.old.files self.new.files }
-        ensures bound {
-            spec.highest_version self.new.places ≤ spec.highest_version self.old.places + 1
-        }
+        ensures bound { spec.highest_version self.new.places
+            ≤ spec.highest_version self.old.places + 1 }
     {
         self.versions.raise(path);
         forget_file(self.alloc, path, &mut self.current);
@@ -152,9 +137,8 @@ impl Cache {
         requires { spec.highest_version self.old.places + 1 < 2 ^ 128 }
         ensures files { self.new.files ≡ [] }
         ensures places { self.new.places ≡ spec.all_raised self.old.places }
-        ensures bound {
-            spec.highest_version self.new.places ≤ spec.highest_version self.old.places + 1
-        }
+        ensures bound { spec.highest_version self.new.places
+            ≤ spec.highest_version self.old.places + 1 }
     {
         self.versions.raise_all();
         self.current.truncate(0);
@@ -165,9 +149,8 @@ impl Cache {
         requires { spec.highest_version self.old.places + 1 < 2 ^ 128 }
         ensures files { self.new.files ≡ [] }
         ensures places { self.new.places ≡ spec.all_raised self.old.places }
-        ensures bound {
-            spec.highest_version self.new.places ≤ spec.highest_version self.old.places + 1
-        }
+        ensures bound { spec.highest_version self.new.places
+            ≤ spec.highest_version self.old.places + 1 }
     {
         self.touch_all();
     }

@@ -157,9 +157,8 @@ pub fn write_files(
     files: &mut CachedFiles,
     written: Written,
 )
-    ensures {
-        files.new ≡ spec.written_files (option_copied selected.entry) command.now files.old written
-    }
+    ensures { files.new
+        ≡ spec.written_files (option_copied selected.entry) command.now files.old written }
 {
     match written {
         Written::Nothing | Written::Raw => {}
@@ -190,10 +189,8 @@ pub fn exchange_files(
     completed: Option<CachedFile>,
     files: &mut CachedFiles,
 ) -> Result<(), Memory>
-    ensures {
-        OnOk result (files.new ≡ spec.files_exchanged touch.now (option_copied selected.entry)
-            command.now completed files.old)
-    }
+    ensures { OnOk result (files.new ≡ spec.files_exchanged touch.now (option_copied selected.entry)
+        command.now completed files.old) }
 {
     write_files(alloc, selected, command, files, touch.written);
     forget_moved(alloc, touch, files);

@@ -8,6 +8,7 @@ use apdu::{Command, Path, Response};
 use refresh_cmd::{Proactive, read_proactive};
 
 const FETCH: u8 = 0x12;
+
 const REFRESH: u8 = 0x01;
 
 /// The REFRESH that an exchange handed over, where it is a FETCH and did.
@@ -25,7 +26,13 @@ fn refresh_of(body: &[u8]) -> Option<Proactive>
     ensures { result ≡ spec.refresh_of (read_proactive body.now) }
 {
     match read_proactive(body) {
-        Ok(proactive) => { if proactive.kind == REFRESH { Some(proactive) } else { None } }
+        Ok(proactive) => {
+            if proactive.kind == REFRESH {
+                Some(proactive)
+            } else {
+                None
+            }
+        }
         Err(_) => None,
     }
 }

@@ -11,7 +11,9 @@ use apdu::{Command, Path, Response};
 use refresh_cmd::Proactive;
 
 const UPDATE_BINARY: u8 = 0xD6;
+
 const UPDATE_RECORD: u8 = 0xDC;
+
 const ABSOLUTE: u8 = 0x04;
 
 /// Whether the exchange is an UPDATE that succeeded.
@@ -40,13 +42,9 @@ fn is_at(selected: Option<&Path>, path: &Path) -> bool
 
 impl Written {
     /// What an exchange wrote. `raw` says that the command is an application's, `selected` is the file that was selected before it.
-    pub fn by(
-        raw: bool,
-        selected: Option<&Path>,
-        command: &Command,
-        response: &Response,
-    ) -> Written
-        ensures { result ≡ spec.written_by raw (option_copied selected.entry) command.now response.now }
+    pub fn by(raw: bool, selected: Option<&Path>, command: &Command, response: &Response) -> Written
+        ensures { result
+            ≡ spec.written_by raw (option_copied selected.entry) command.now response.now }
     {
         if !is_update(command, response) {
             Written::Nothing
@@ -109,7 +107,8 @@ impl Touch {
         command: &Command,
         response: &Response,
     ) -> Touch
-        ensures { result ≡ spec.touch_exchanged raw (option_copied selected.entry) command.now response.now }
+        ensures { result
+            ≡ spec.touch_exchanged raw (option_copied selected.entry) command.now response.now }
     {
         Touch {
             begins: false,

@@ -15,7 +15,7 @@ returns-in_default-clause-bound c = subst (λ ps. highest_version ps ≤ highest
 pub overflow_add-version : goal.overflow_add-version
 overflow_add-version c =
     let known = told (λ p ps. c.in-Some.version.now ≡ version_of p ps) c.key_of.ensures c.self.view_is
-      (ap (λ o. unwrap_or o 0) c.in-Some.ensures.value ∙ version_found (λ k. k.items) c.key_of.result.items c.self.inside.by_path.entries) in
+    (ap (λ o. unwrap_or o 0) c.in-Some.ensures.value ∙ version_found (λ k. k.items) c.key_of.result.items c.self.inside.by_path.entries) in
     omega (arith, known, version_bounded c.args.path.now c.args.self.now, c.requires)
 
 pub returns-clause-value : goal.returns-clause-value

@@ -1,5 +1,4 @@
 use Rattle.std.proofs.Common.{◌≡◌, ◌∙◌, ap, sym}
-use Rattle.std.specs.Prelude.{is_some}
 use Rattle.epoch_cache.specs.Places.{with_place, highest_version}
 use Rattle.epoch_cache.specs.contracts.versions.Versions.{the_view}
 use Rattle.epoch_cache.proofs.Placed.{told, places_of, tracked, tracked_before, with_place_bound}
