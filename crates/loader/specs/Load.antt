@@ -4,9 +4,10 @@
 -- then sends the first READ. Later it sends the next READ, behind a SELECT without an answer where another file is current. What follows a
 -- response 61XX or 6CXX is sent at once. A turn ends behind its READ, behind a SELECT that leaves no READ, behind a refusal, and behind an
 -- exchange that failed.
-use Rattle.std.specs.Prelude.{◌≡◌, ℕ, ◌+◌, ◌&&◌, Bool, true, false, if◌then◌else◌, List, [], ◌∷◌, Option, Some, None, option_map, option_and_then, Result, Ok, Err}
+use Rattle.std.specs.Prelude.{◌≡◌, ◌≤◌, ℕ, ◌+◌, ◌&&◌, Bool, true, false, if◌then◌else◌, List, [], ◌∷◌, Option, Some, None, option_map, option_and_then, Result, Ok, Err}
 use Rattle.apdu.specs.Values.{CommandValue, ResponseValue}
 use Rattle.apdu.specs.Apdu.{is_success, wants_more}
+use Rattle.apdu.specs.Stream.{Rose}
 use Rattle.fcp.specs.Control.{read_fcp}
 use Rattle.fcp.specs.declared.control.Fcp.{Fcp}
 use Rattle.fcp.specs.declared.control.FcpError.{FcpError}
@@ -186,6 +187,11 @@ pub record HasTurned (path : Option (List ℕ)) (paths : List (List ℕ)) (l : L
   pub readings : new_readings ≡ l.readings
   pub over : IsOver path l
   pub answer : result ≡ load_answer paths l.refused l.files
+
+-- it answers a fault only where the count of faults rose
+pub record FaultHasCause (before now : ℕ) (result : Result LoadTurn LoadError) : Type 0 where
+  pub later : before ≤ now
+  pub failed : result ≡ Err error.Slot → Rose before now
 
 -- ---- a turn of the code
 

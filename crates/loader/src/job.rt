@@ -1,11 +1,14 @@
 // A load, turn by turn.
 ghost use Rattle.std.specs.Prelude.{◌≡◌, ◌+◌, ◌<◌, ◌≤◌, ◌^◌, [], false, drop, length, Some, None, Ok, OnOk, IfOk};
 ghost use Rattle.std.specs.Option.{option_copied};
+ghost use Rattle.apdu.specs.Stream.{Rose};
 ghost use Rattle.epoch_cache.specs.Cache.{first_missing, with_completed};
 ghost use Rattle.epoch_cache.specs.Places.{highest_version};
 ghost use Rattle.link.specs.Commands.{is_path_select};
 ghost use Rattle.link.specs.Exchanges.{Grows, Plays, added, seen, selection_over};
 ghost use Rattle.loader.specs.Load as spec;
+ghost use Rattle.link.specs.Selected.{KeepsTrack};
+ghost use Rattle.loader.specs.declared.stage.LoadError.TheVariants as error;
 ghost use Rattle.loader.specs.declared.stage.Stage.TheVariants.{Fresh, Over};
 ghost use Rattle.loader.specs.Reading.{unspoiled};
 
@@ -196,6 +199,8 @@ impl LoadJob {
         ensures chain { OnOk result (turning.new.chain ≡ None) }
         ensures reads { OnOk result (spec.IsReadNext turning.new.stage) }
         ensures over { OnOk result (is_path_select command.now ≡ false → turning.new.stage ≡ Over) }
+        ensures later { S.faults slot.old ≤ S.faults slot.new }
+        ensures fault { OnOk result (turning.new.refused ≡ Some error.Slot → Rose (S.faults slot.old) (S.faults slot.new)) }
         ensures events { OnOk result (turning.new.events ≤ turning.old.events + 4) }
         ensures paths { self.new.paths ≡ self.old.paths }
         ensures bound { highest_version cache.new.places ≡ highest_version cache.old.places }
@@ -225,6 +230,8 @@ impl LoadJob {
         ensures due { spec.AreDue path.now (added trail.old trail.new) (spec.load_of turning.old cache.old.files self.old.readings) }
         ensures load { OnOk result (spec.load_of turning.new cache.new.files self.new.readings
             ≡ spec.load_after path.now (added trail.old trail.new) (spec.load_of turning.old cache.old.files self.old.readings)) }
+        ensures later { S.faults slot.old ≤ S.faults slot.new }
+        ensures fault { OnOk result (turning.new.refused ≡ Some error.Slot → Rose (S.faults slot.old) (S.faults slot.new)) }
         ensures over { OnOk result (spec.load_due path.now (spec.load_of turning.new cache.new.files self.new.readings) ≡ None) }
         ensures paths { self.new.paths ≡ self.old.paths }
         ensures bound { highest_version cache.new.places ≡ highest_version cache.old.places }
@@ -257,6 +264,8 @@ impl LoadJob {
         ensures due { spec.IsDue (first_missing cache.old.files self.old.paths) (added trail.old trail.new)
             (spec.load_begun selection.old cache.old.files self.old.readings events) }
         ensures selection { selection.new ≡ selection_over (added trail.old trail.new) selection.old }
+        ensures tracked { KeepsTrack (S.world slot.old) (S.world slot.new) selection.old selection.new }
+        ensures cause { spec.FaultHasCause (S.faults slot.old) (S.faults slot.new) result }
         ensures done { spec.HadMemory result (spec.HasTurned
             (first_missing cache.old.files self.old.paths) self.old.paths
             (spec.load_behind (first_missing cache.old.files self.old.paths) (added trail.old trail.new)
@@ -266,12 +275,13 @@ impl LoadJob {
         ensures bound { highest_version cache.new.places ≡ highest_version cache.old.places }
     {
         let from = trail.len();
-        let turned = self.turned(slot, selection, cache, events, trail);
+        let turned = self.read_missing(slot, selection, cache, events, trail);
         selection.follow_steps(steps_from(trail, from));
         turned
     }
 
-    fn turned<S: Slot>(
+    // Reads the first path that is not current on, and says what that comes to.
+    fn read_missing<S: Slot>(
         &mut self,
         slot: &mut S,
         selection: &Selection,
@@ -287,6 +297,7 @@ impl LoadJob {
             (seen (S.world slot.new) (S.plan slot.new) (S.faults slot.new)) }
         ensures due { spec.IsDue (first_missing cache.old.files self.old.paths) (added trail.old trail.new)
             (spec.load_begun selection.now cache.old.files self.old.readings events) }
+        ensures cause { spec.FaultHasCause (S.faults slot.old) (S.faults slot.new) result }
         ensures done { spec.HadMemory result (spec.HasTurned
             (first_missing cache.old.files self.old.paths) self.old.paths
             (spec.load_behind (first_missing cache.old.files self.old.paths) (added trail.old trail.new)
