@@ -3,6 +3,7 @@ ghost use Rattle.std.specs.Prelude.{◌≡◌, ◌≤◌, ◌+◌, ◌++◌, len
 ghost use Rattle.std.specs.Str.{is_utf8};
 ghost use Rattle.apdu.specs.Apdu.{command_bytes, response_bytes, read_command, read_response};
 ghost use Rattle.report.specs.Kept as spec;
+ghost use Rattle.report.specs.Room.{most_kept, most_of_answer};
 
 use crate::numbers::{keep_numbers, keep_shown, numbers_of, shown_of};
 use crate::{Answer, Line, Seen};
@@ -165,7 +166,8 @@ const _: () = prove!(size_of::<Entry>() == 48);
 
 #[tactic(auto, using(crate::proofs::Words::length_numbers_bytes, crate::proofs::Words::length_shown_bytes))]
 fn answer_len(answer: &Answer) -> usize
-    ensures { result ≡ length (spec.answer_bytes answer.now) }
+    ensures value { result ≡ length (spec.answer_bytes answer.now) }
+    ensures most { result ≤ most_of_answer answer.now }
 {
     match answer {
         Answer::Done { left, .. } => left.as_slice().len(),
@@ -176,20 +178,30 @@ fn answer_len(answer: &Answer) -> usize
     }
 }
 
-/// How many bytes of a line are kept.
-pub fn kept_len(line: &Line) -> usize
-    ensures { result ≡ length (spec.kept_bytes line.now) }
+fn exchange_len(command: &Command, response: &Response) -> usize
+    ensures value { result ≡ length (command_bytes command.now ++ response_bytes response.now) }
+    ensures most { result ≤ 519 }
 {
-    match line {
-        Line::Exchange {
-            command,
-            response,
-            ..
-        } => command.write().len() + response.write().len(),
-        Line::Failed { command, .. } => command.write().len(),
-        Line::Published { content, .. } => content.as_str().len(),
-        Line::Answered { answer, .. } => answer_len(answer),
-        _ => 0,
+    command.write().len() + response.write().len()
+}
+
+impl Line {
+    /// How many bytes are kept of the line.
+    pub(crate) fn kept_len(&self) -> usize
+        ensures value { result ≡ length (spec.kept_bytes self.now) }
+        ensures most { result ≤ most_kept self.now }
+    {
+        match self {
+            Line::Exchange {
+                command,
+                response,
+                ..
+            } => exchange_len(command, response),
+            Line::Failed { command, .. } => command.write().len(),
+            Line::Published { content, .. } => content.as_str().len(),
+            Line::Answered { answer, .. } => answer_len(answer),
+            _ => 0,
+        }
     }
 }
 

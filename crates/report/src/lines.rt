@@ -1,8 +1,9 @@
 // The lines of a run, and the report of them.
 ghost use Rattle.std.specs.Prelude.{◌≡◌, ◌≤◌, ◌<◌, ◌+◌, ◌∷◌, [], length, reverse, slice_get, IsOk, IfOk, OnOk, OnErr};
 ghost use Rattle.report.specs.Kept.{kept_bytes};
+ghost use Rattle.report.specs.Room.{most_kept};
 
-use crate::form::{Entry, keep, kept_len, line_of};
+use crate::form::{Entry, keep, line_of};
 use crate::{Line, Mode};
 use apdu::{Memory, Reserved};
 use script::Script;
@@ -75,18 +76,30 @@ impl ReservedLines {
         self.bytes.reserve(bytes)
     }
 
-    /// Puts a line behind the others, within the room.
-    pub fn push_within(&mut self, line: &Line)
+    // Puts a line behind the others, which keeps so many bytes.
+    fn put(&mut self, line: &Line, len: usize)
         requires spare { 0 < self.old.spare }
-        requires spare_bytes { length (kept_bytes line.now) ≤ self.old.spare_bytes }
+        requires len { len ≡ length (kept_bytes line.now) }
+        requires spare_bytes { len ≤ self.old.spare_bytes }
         ensures lines { self.new.lines ≡ line.now ∷ self.old.lines }
         ensures spare { self.new.spare + 1 ≡ self.old.spare }
-        ensures spare_bytes { self.old.spare_bytes ≤ self.new.spare_bytes + length (kept_bytes line.now) }
+        ensures spare_bytes { self.old.spare_bytes ≤ self.new.spare_bytes + len }
     {
         let at = self.bytes.len();
         let form = keep(line, &mut self.bytes);
-        let len = self.bytes.len() - at;
         self.entries.push_within(Entry { at, len, form });
+    }
+
+    /// Puts a line behind the others, within the room.
+    pub fn push_within(&mut self, line: &Line)
+        requires spare { 0 < self.old.spare }
+        requires spare_bytes { most_kept line.now ≤ self.old.spare_bytes }
+        ensures lines { self.new.lines ≡ line.now ∷ self.old.lines }
+        ensures spare { self.new.spare + 1 ≡ self.old.spare }
+        ensures spare_bytes { self.old.spare_bytes ≤ self.new.spare_bytes + most_kept line.now }
+    {
+        let len = line.kept_len();
+        self.put(line, len);
     }
 
     /// Puts a line behind the others, and asks for memory where there is no room.
@@ -94,8 +107,9 @@ impl ReservedLines {
         ensures ok { OnOk result (self.new.lines ≡ line.now ∷ self.old.lines) }
         ensures err { OnErr result (self.new.lines ≡ self.old.lines) }
     {
-        self.reserve(1, kept_len(line))?;
-        self.push_within(line);
+        let len = line.kept_len();
+        self.reserve(1, len)?;
+        self.put(line, len);
         Ok(())
     }
 
