@@ -19,7 +19,7 @@ use Rattle.script_reader.specs.declared.types.Operation.{Operation}
 use Rattle.script_reader.specs.declared.types.Operation.TheVariants as operation
 use Rattle.report.specs.declared.line.Line.{Line}
 use Rattle.report.specs.declared.line.Line.TheVariants as line
-use Rattle.families.specs.Families.{View, all_families, family_paths, family_path, family_plan}
+use Rattle.families.specs.Families.{View, phonebook, fixed, family_paths, family_path, family_plan}
 use Rattle.families.specs.Plans.{plan_edit, plan_updates}
 use Rattle.epoch_cache.specs.declared.cached.CachedFile.{CachedFile}
 use Rattle.epoch_cache.specs.Cache.{is_of, taken, is_current, all_current, first_missing, view_of_files}
@@ -35,9 +35,9 @@ use Rattle.rules.specs.Kept.{begun_of, operation_now, operation_at}
 use Rattle.rules.specs.Editing.{rule_path, path_of_rule, edit_paths, planned, first_lack, row_from_one, need_by_rule, need_of_taken, update_need, need_of_file, card_need}
 use Rattle.rules.specs.Work.{work_of_operation, decides, begins_plan, attempts, undecided_work, decided_work, edit_work, work_of_edit}
 use Rattle.rules.specs.After.{edit_of, fresh_begun, decision_of_begun, decision_at}
-use Rattle.rules.specs.Agreement.{FileTrue, FilesTrue, arr_at, edit_at, IsPlanned}
-use Rattle.rules.specs.Laws.{Agrees}
+use Rattle.rules.specs.Agreement.{is_application, FileTrue, FilesTrue, arr_at, edit_at, IsPlanned}
 use Rattle.rules.proofs.Publishing.{current-agrees}
+use Rattle.rules.proofs.Told.{card_agrees}
 use Rattle.rules.proofs.Truth.{found_path, find_passes}
 
 -- ---- what a decision stands on
@@ -189,11 +189,8 @@ module _ (card : CardState) (files : List CachedFile) (t : FilesTrue card files)
       by_list : (fs : List CachedFile) → FilesTrue card fs → taken path fs ≡ Some file → FileTrue card file × (file.path ≡ path)
       by_list fs u e = (by_true fs u e, same_bytes_is file.path path (find_passes (is_of path) fs file e))
 
-  pub card_agrees : Agrees files (λ path. rows_of path card)
-  card_agrees = record { same = λ path file h. let q = taken_file path file h in q.0.content ∙ ap (λ (x : List ℕ). rows_of x card) q.1 }
-
-  view_is : (path : List ℕ) → is_current files path ≡ true → view_of_files files path ≡ rows_of path card
-  view_is path h = current-agrees files (λ path. rows_of path card) path card_agrees h
+  view_is : (path : List ℕ) → is_application path ≡ false → is_current files path ≡ true → view_of_files files path ≡ rows_of path card
+  view_is path n h = current-agrees files (λ path. rows_of path card) path (card_agrees card files t) n h
 
   cons_rest : (p : Option (List ℕ)) (rest : List (List ℕ)) → all_current files (cons_option p rest) ≡ true → all_current files rest ≡ true
   cons_rest None rest h = h
@@ -208,11 +205,11 @@ module _ (card : CardState) (files : List CachedFile) (t : FilesTrue card files)
   named_current (x ∷ paths) zero path named e n h = let same : x ≡ path = cc in cons_first (rule_path files x) (filter_map (rule_path files) paths) named (ap (rule_path files) same ∙ n) h
   named_current (x ∷ paths) (suc i) path named e n h = named_current paths i path named e n (cons_rest (rule_path files x) (filter_map (rule_path files) paths) h)
 
-  module _ (path : List ℕ) (file : CachedFile) (found : taken path files ≡ Some file) (rules : (named : List ℕ) → rule_path files path ≡ Some named → is_current files named ≡ true) where
+  module _ (path : List ℕ) (outside : is_application path ≡ false) (rules_outside : (arr : ArrRef) → is_application (rule_file_path path arr) ≡ false) (file : CachedFile) (found : taken path files ≡ Some file) (rules : (named : List ℕ) → rule_path files path ≡ Some named → is_current files named ≡ true) where
     rule_is : (arr : ArrRef) → file.arr ≡ Some arr → rule_of_record (row_from_one (view_of_files files (rule_file_path path arr)).rows arr.row) ≡ rule_of_record (option_and_then (record_at arr.row) (file_of (rule_file_path path arr) card))
     rule_is arr h =
         let named : rule_path files path ≡ Some (rule_file_path path arr) = ap (path_of_rule path) found ∙ ap (option_map (rule_file_path path)) h in
-        let rows = view_is (rule_file_path path arr) (rules (rule_file_path path arr) named) in
+        let rows = view_is (rule_file_path path arr) (rules_outside arr) (rules (rule_file_path path arr) named) in
         ap (λ (x : Content). rule_of_record (row_from_one x.rows arr.row)) rows ∙ ap rule_of_record (rows_at arr.row (file_of (rule_file_path path arr) card))
 
     of_card : (o : Option FileState) → file_of path card ≡ o → file.arr ≡ option_and_then (λ (x : FileState). x.arr) o → need_by_rule files path file.arr ≡ need_of_file card o
@@ -237,30 +234,49 @@ module _ (card : CardState) (files : List CachedFile) (t : FilesTrue card files)
     pub need_is : update_need files path ≡ card_need card path
     need_is =
         let t = taken_file path file found in
-        ap (need_of_taken files path) found ∙ of_card (file_of path card) refl (t.0.arr ∙ ap (λ (x : List ℕ). arr_at x card) t.1)
+        ap (need_of_taken files path) found ∙ of_card (file_of path card) refl ((t.0 (ap is_application t.1 ∙ outside)).arr ∙ ap (λ (x : List ℕ). arr_at x card) t.1)
 
   some_of : (path : List ℕ) (o : Option CachedFile) → taken path files ≡ o → is_some o ≡ true → (file : CachedFile) × (taken path files ≡ Some file)
   some_of path None h c = absurd (cc)
   some_of path (Some file) h c = (file, h)
 
-  pub path_need : (paths : List (List ℕ)) (i : ℕ) (path : List ℕ) → slice_get paths i ≡ Some path → all_current files (paths ++ filter_map (rule_path files) paths) ≡ true → update_need files path ≡ card_need card path
-  path_need paths i path e h =
+  pub path_need : (paths : List (List ℕ)) (i : ℕ) (path : List ℕ) → is_application path ≡ false → ((arr : ArrRef) → is_application (rule_file_path path arr) ≡ false) → slice_get paths i ≡ Some path → all_current files (paths ++ filter_map (rule_path files) paths) ≡ true → update_need files path ≡ card_need card path
+  path_need paths i path outside rules_outside e h =
       let here = member files paths i path e (front files paths (filter_map (rule_path files) paths) h) in
       let q = some_of path (taken path files) refl here in
-      need_is path q.0 q.1 (λ named n. named_current paths i path named e n (behind files paths (filter_map (rule_path files) paths) h))
+      need_is path outside rules_outside q.0 q.1 (λ named n. named_current paths i path named e n (behind files paths (filter_map (rule_path files) paths) h))
+
+-- ---- the books
+
+pub record IsBook (f : ℕ) : Type 0 where
+  pub main : slice_get (family_paths f) 0 ≡ Some (family_path f 0)
+  pub extension : slice_get (family_paths f) 1 ≡ Some (family_path f 1)
+  pub main_outside : is_application (family_path f 0) ≡ false
+  pub extension_outside : is_application (family_path f 1) ≡ false
+  pub main_rules : (arr : ArrRef) → is_application (rule_file_path (family_path f 0) arr) ≡ false
+  pub extension_rules : (arr : ArrRef) → is_application (rule_file_path (family_path f 1) arr) ≡ false
+
+rules_by : (path : List ℕ) (id : ℕ) → is_application (path ++ id ∷ []) ≡ false → (b : Bool) → is_application (if b then 0x2F06 ∷ [] else path ++ id ∷ []) ≡ false
+rules_by path id h true = refl
+rules_by path id h false = h
+
+book_by : (f : ℕ) (b c : Bool) → (1 == f) ≡ b → (2 == f) ≡ c → (b || (c || false)) ≡ true → IsBook f
+book_by f true c y z h = subst IsBook (eqb-true 1 f y) (record { main = refl; extension = refl; main_outside = refl; extension_outside = refl; main_rules = λ arr. rules_by (0x7F10 ∷ []) arr.file_id refl (arr.file_id == 0x2F06); extension_rules = λ arr. rules_by (0x7F10 ∷ []) arr.file_id refl (arr.file_id == 0x2F06) })
+book_by f false true y z h = subst IsBook (eqb-true 2 f z) (record { main = refl; extension = refl; main_outside = refl; extension_outside = refl; main_rules = λ arr. rules_by (0x7FFF ∷ []) arr.file_id refl (arr.file_id == 0x2F06); extension_rules = λ arr. rules_by (0x7FFF ∷ []) arr.file_id refl (arr.file_id == 0x2F06) })
+book_by f false false y z h = absurd (cc)
 
 -- ---- the whole
 
-pub planned_true : (s : Script) (card : CardState) (k : Kept) (l : Line) (f : ℕ) (e : Edit) (a : Attempt) → FilesTrue card k.files → is_one_of f all_families ≡ true → edit_at s l k ≡ Some (f, e) → (decision_at s l k).attempt ≡ Some a → IsPlanned card k f e a
+pub planned_true : (s : Script) (card : CardState) (k : Kept) (l : Line) (f : ℕ) (e : Edit) (a : Attempt) → FilesTrue card k.files → is_one_of f (phonebook ∷ fixed ∷ []) ≡ true → edit_at s l k ≡ Some (f, e) → (decision_at s l k).attempt ≡ Some a → IsPlanned card k f e a
 planned_true s card k l f e a t one edit begins =
     let p = line_by k f e a s l edit begins in
     let all = none_missing k.files (edit_paths k.files f) p.current in
     let own = front k.files (family_paths f) (filter_map (rule_path k.files) (family_paths f)) all in
-    let two = two_by f (0 == f) (1 == f) (2 == f) refl refl refl one in
-    let main = view_is card k.files t (family_path f 0) (member k.files (family_paths f) 0 (family_path f 0) two.0 own) in
-    let extension = view_is card k.files t (family_path f 1) (member k.files (family_paths f) 1 (family_path f 1) two.1 own) in
+    let book = book_by f (1 == f) (2 == f) refl refl one in
+    let main = view_is card k.files t (family_path f 0) book.main_outside (member k.files (family_paths f) 0 (family_path f 0) book.main own) in
+    let extension = view_is card k.files t (family_path f 1) book.extension_outside (member k.files (family_paths f) 1 (family_path f 1) book.extension own) in
     record {
       plan = sym (same_plan f e (view_of_files k.files) (λ path. rows_of path card) main extension) ∙ p.plan;
-      main_need = path_need card k.files t (family_paths f) 0 (family_path f 0) two.0 all;
-      extension_need = path_need card k.files t (family_paths f) 1 (family_path f 1) two.1 all;
+      main_need = path_need card k.files t (family_paths f) 0 (family_path f 0) book.main_outside book.main_rules book.main all;
+      extension_need = path_need card k.files t (family_paths f) 1 (family_path f 1) book.extension_outside book.extension_rules book.extension all;
     }

@@ -1,5 +1,5 @@
 -- What is kept agrees with the card in the slot: its selection, the exchanges of a command, current files and readings.
-use Rattle.std.specs.Prelude.{◌≡◌, ◌⊎◌, ◌==◌, ◌&&◌, ◌||◌, not, ℕ, Bool, true, List, [], ◌∷◌, length, nat_lt, slice_get, Option, Some, None, option_and_then, Ok}
+use Rattle.std.specs.Prelude.{◌≡◌, ◌⊎◌, ◌==◌, ◌&&◌, ◌||◌, ℕ, Bool, true, false, List, [], ◌∷◌, length, nat_lt, slice_get, Option, Some, None, option_and_then, Ok}
 use Rattle.std.specs.List.{list_all}
 use Rattle.apdu.specs.Values.{CommandValue}
 use Rattle.apdu.specs.Words.{same_bytes, is_one_of, path_is_in}
@@ -17,9 +17,6 @@ use Rattle.card_effects.specs.Effect.{basic, IsMisfit}
 use Rattle.card_effects.specs.Basic.{HasCurrent}
 use Rattle.card_effects.specs.Fine.{FineFiles, FineImages}
 use Rattle.card_effects.specs.Rows.{RowsTrue}
-use Rattle.script_reader.specs.declared.types.FileSpec.{FileSpec}
-use Rattle.script_reader.specs.declared.types.CardSpec.{CardSpec}
-use Rattle.script_reader.specs.declared.types.ChangeSpec.{ChangeSpec}
 use Rattle.script_reader.specs.declared.types.Script.{Script}
 use Rattle.report.specs.declared.line.Line.{Line}
 use Rattle.report.specs.declared.line.Line.TheVariants as line
@@ -45,20 +42,7 @@ abbrev pub are_responses_right : Script → List Line → Bool
 are_responses_right s [] = true
 are_responses_right s (l ∷ earlier) = are_responses_right s earlier && has_right_response (world_of s earlier) l
 
--- ---- what is asked of a script, beside that it keeps its rules
-
--- the file does not stand at the directory of the application
-abbrev pub is_apart : FileSpec → Bool
-is_apart file = not (same_bytes file.path (application_id ∷ []))
-
-abbrev pub are_apart : List FileSpec → Bool
-are_apart files = list_all is_apart files
-
--- nor does any file of its cards and changes
-abbrev pub has_files_apart : Script → Bool
-has_files_apart s = list_all (λ (card : CardSpec). are_apart card.files) s.cards && list_all (λ (change : ChangeSpec). are_apart change.files) s.changes
-
--- ---- what that comes to: of a change
+-- ---- what a script that keeps its rules comes to: of a change
 
 abbrev pub tells_files : Change → Bool
 tells_files ch = is_one_of ch.qualifier (0 ∷ 4 ∷ 5 ∷ 6 ∷ []) || (nat_lt ch.qualifier 7 && list_all (λ (f : FileState). path_is_in ch.list f.path) ch.files)
@@ -135,13 +119,20 @@ ChainTied card selected (Some chain) = Stands card selected chain.first chain.ne
 
 -- ---- current files
 
+-- the directory of the application, where one channel may see a file and another none; no family has it
+abbrev pub is_application : List ℕ → Bool
+is_application path = same_bytes path (application_id ∷ [])
+
 abbrev pub arr_at : List ℕ → CardState → Option ArrRef
 arr_at path card = option_and_then (λ (f : FileState). f.arr) (file_of path card)
 
 -- a current file has the card's rows, and the reference to its rule
-pub record FileTrue (card : CardState) (file : CachedFile) : Type 0 where
+pub record HasFile (card : CardState) (file : CachedFile) : Type 0 where
   pub content : file.content ≡ rows_of file.path card
   pub arr : file.arr ≡ arr_at file.path card
+
+abbrev pub FileTrue : CardState → CachedFile → Type 0
+FileTrue card file = is_application file.path ≡ false → HasFile card file
 
 abbrev pub FilesTrue : CardState → List CachedFile → Type 0
 FilesTrue card [] = Unit {0}
@@ -150,12 +141,15 @@ FilesTrue card (file ∷ files) = FileTrue card file × FilesTrue card files
 -- ---- readings
 
 -- a reading has the control parameters of the card's file, and its rows begin the file's
-pub record ReadingTrue (card : CardState) (g : ReadingValue) : Type 0 where
+pub record HasReading (card : CardState) (g : ReadingValue) : Type 0 where
   pub file : FileState
   pub at : file_at g.path card ≡ Some file
   pub seen : file_of g.path card ≡ file_at g.path card
   pub control : g.control ≡ fields_of_file file
   pub rows : RowsTrue file.rows g.rows
+
+abbrev pub ReadingTrue : CardState → ReadingValue → Type 0
+ReadingTrue card g = is_application g.path ≡ false → HasReading card g
 
 abbrev pub ReadingsTrue : CardState → List ReadingValue → Type 0
 ReadingsTrue card [] = Unit {0}

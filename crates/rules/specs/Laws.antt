@@ -1,5 +1,5 @@
 -- Laws of the rules that a reader would want of them.
-use Rattle.std.specs.Prelude.{◌≡◌, ◌⊎◌, ◌==◌, ℕ, true, if◌then◌else◌, List, [], ◌∷◌, Option, Some, None, is_none, map, option_map, slice_get}
+use Rattle.std.specs.Prelude.{◌≡◌, ◌⊎◌, ◌==◌, ℕ, true, false, if◌then◌else◌, List, [], ◌∷◌, Option, Some, None, is_none, map, option_map, slice_get}
 use Rattle.apdu.specs.Words.{is_one_of}
 use Rattle.card_model.specs.declared.world.ChannelState.{ChannelState}
 use Rattle.card_model.specs.declared.world.CardState.{CardState}
@@ -9,7 +9,7 @@ use Rattle.script_reader.specs.declared.types.Script.{Script}
 use Rattle.report.specs.declared.line.Mode.{Mode}
 use Rattle.report.specs.declared.line.Line.{Line}
 use Rattle.report.specs.declared.lines.Report.{Report}
-use Rattle.families.specs.Families.{View, all_families, shown}
+use Rattle.families.specs.Families.{View, phonebook, fixed, all_families, shown}
 use Rattle.rules.specs.declared.due.Due.TheVariants.{Publish as publish}
 use Rattle.epoch_cache.specs.declared.cached.CachedFile.{CachedFile}
 use Rattle.rules.specs.declared.kept.Job.{Job}
@@ -18,7 +18,7 @@ use Rattle.epoch_cache.specs.Cache.{taken, is_current}
 use Rattle.rules.specs.Due.{due, kept_text}
 use Rattle.rules.specs.After.{decision_at, kept_of}
 use Rattle.rules.specs.State.{world_of, view_in, shown_in, same_shown}
-use Rattle.rules.specs.Agreement.{are_responses_right, has_files_apart, TiedInside, edit_at, IsPlanned}
+use Rattle.rules.specs.Agreement.{are_responses_right, is_application, TiedInside, edit_at, IsPlanned}
 use Rattle.rules.specs.declared.edits.Attempt.{Attempt}
 use Rattle.adn.specs.declared.edit.Edit.{Edit}
 use Rattle.script_reader.specs.Rules.{keeps_rules}
@@ -37,9 +37,9 @@ JudgesReports = (r : Report) → is_none (first_broken r) ≡ legal r
 
 -- ---- publications
 
--- each current file is kept as the view has it
+-- each current file is kept as the view has it, beside one at the directory of the application
 pub record Agrees (files : List CachedFile) (view : View) : Type 0 where
-  pub same : (path : List ℕ) (file : CachedFile) → taken path files ≡ Some file → file.content ≡ view path
+  pub same : (path : List ℕ) (file : CachedFile) → is_application path ≡ false → taken path files ≡ Some file → file.content ≡ view path
 
 -- a publication that is due tells what the card shows
 abbrev pub TellsTruth : Type 0
@@ -81,15 +81,15 @@ AnswersRight = (s : Script) (m : Mode) (lines : List Line) → are_legal_lines s
 
 -- what is kept agrees with the card in the slot
 abbrev pub KeptAgrees : Type 0
-KeptAgrees = (s : Script) (lines : List Line) → keeps_rules s ≡ true → has_files_apart s ≡ true → are_responses_right s lines ≡ true → TiedInside (world_of s lines) (kept_of s lines)
+KeptAgrees = (s : Script) (lines : List Line) → keeps_rules s ≡ true → are_responses_right s lines ≡ true → TiedInside (world_of s lines) (kept_of s lines)
 
 -- a publication that is due tells what the card in the slot shows
 abbrev pub ShowsCard : Type 0
-ShowsCard = (s : Script) (lines : List Line) (f : ℕ) → keeps_rules s ≡ true → has_files_apart s ≡ true → are_responses_right s lines ≡ true → is_one_of f all_families ≡ true → due s (kept_of s lines) ≡ publish f → same_shown (shown_in (world_of s lines) f) (Some (kept_text f (kept_of s lines))) ≡ true
+ShowsCard = (s : Script) (lines : List Line) (f : ℕ) → keeps_rules s ≡ true → are_responses_right s lines ≡ true → is_one_of f all_families ≡ true → due s (kept_of s lines) ≡ publish f → same_shown (shown_in (world_of s lines) f) (Some (kept_text f (kept_of s lines))) ≡ true
 
 -- an attempt that begins behind them has the plan for the card in the slot
 abbrev pub PlansForCard : Type 0
-PlansForCard = (s : Script) (lines : List Line) (l : Line) (card : CardState) (f : ℕ) (e : Edit) (a : Attempt) → keeps_rules s ≡ true → has_files_apart s ≡ true → are_responses_right s lines ≡ true → card_inside (world_of s lines) ≡ Some card → is_one_of f all_families ≡ true → edit_at s l (kept_of s lines) ≡ Some (f, e) → (decision_at s l (kept_of s lines)).attempt ≡ Some a → IsPlanned card (kept_of s lines) f e a
+PlansForCard = (s : Script) (lines : List Line) (l : Line) (card : CardState) (f : ℕ) (e : Edit) (a : Attempt) → keeps_rules s ≡ true → are_responses_right s lines ≡ true → card_inside (world_of s lines) ≡ Some card → is_one_of f (phonebook ∷ fixed ∷ []) ≡ true → edit_at s l (kept_of s lines) ≡ Some (f, e) → (decision_at s l (kept_of s lines)).attempt ≡ Some a → IsPlanned card (kept_of s lines) f e a
 
 -- ---- what is kept, and looking back; over every list of lines
 
