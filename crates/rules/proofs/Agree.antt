@@ -21,7 +21,8 @@ use Rattle.rules.specs.Due.{due, kept_text}
 use Rattle.rules.specs.After.{decision_at, kept_of}
 use Rattle.rules.specs.Rules.{has_right_response}
 use Rattle.rules.specs.State.{first_world, world_of, shown_in, same_shown}
-use Rattle.rules.specs.Agreement.{are_responses_right, Sane, TiedInside, edit_at, IsPlanned}
+use Rattle.rules.specs.Agreement.{are_responses_right, TiedInside, edit_at, IsPlanned}
+use Rattle.rules.proofs.Sane.{Sane}
 use Rattle.rules.proofs.Worlds.{get_set}
 use Rattle.rules.proofs.Selected.{answers_right}
 use Rattle.rules.proofs.Scripts.{worlds_sane, inside_fine}

@@ -22,7 +22,8 @@ use Rattle.epoch_cache.specs.declared.cached.Written.TheVariants as written
 use Rattle.epoch_cache.specs.Cache.{is_update, written_by, is_overwritten, touch_exchanged, is_moved, is_spoiled, is_of, is_row_of, patched, written_files, forgotten, with_completed}
 use Rattle.loader.specs.Values.{ReadingValue}
 use Rattle.loader.specs.Reading.{unspoiled}
-use Rattle.rules.specs.Agreement.{is_application, HasFile, FineChanges, IsSelected, FileTrue, FilesTrue, arr_at, ReadingTrue, ReadingsTrue}
+use Rattle.rules.specs.Agreement.{is_application, HasFile, IsSelected, FileTrue, FilesTrue, arr_at, ReadingTrue, ReadingsTrue}
+use Rattle.rules.proofs.Sane.{FineChanges}
 use Rattle.rules.proofs.Truth.{FineCard, sees}
 use Rattle.rules.proofs.Readings.{CompletedTrue, same_reading, file_of_same}
 use Rattle.rules.proofs.Spared.{WritesRow, Writes, by_raw, unknown, one_row, writes, row_written, spared}

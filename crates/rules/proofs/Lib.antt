@@ -9,6 +9,7 @@ mod Looking
 mod CurrentPaths
 mod HandlesAndSessions
 mod SeenBefore
+mod Sane
 mod Worlds
 mod Selected
 mod Chains

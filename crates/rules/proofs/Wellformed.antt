@@ -27,7 +27,7 @@ use Rattle.script_reader.specs.Rules.{cards_keep_rules, changes_keep_rules, acto
 use Rattle.script_reader.specs.World.{content_of, is_file, file_of, card_of, change_of}
 use Rattle.script_reader.proofs.Fits.{card_files, change_files}
 use Rattle.rules.specs.State.{first_world}
-use Rattle.rules.specs.Agreement.{FineChange, Sane}
+use Rattle.rules.proofs.Sane.{FineChange, Sane}
 
 -- ---- a file
 

@@ -1,21 +1,17 @@
 -- What is kept agrees with the card in the slot: its selection, the exchanges of a command, current files and readings.
-use Rattle.std.specs.Prelude.{◌≡◌, ◌⊎◌, ◌==◌, ◌&&◌, ◌||◌, ℕ, Bool, true, false, List, [], ◌∷◌, length, nat_lt, slice_get, Option, Some, None, option_and_then, Ok}
-use Rattle.std.specs.List.{list_all}
+use Rattle.std.specs.Prelude.{◌≡◌, ◌⊎◌, ◌==◌, ◌&&◌, ℕ, Bool, true, false, List, [], ◌∷◌, Option, Some, None, option_and_then, Ok}
 use Rattle.apdu.specs.Values.{CommandValue}
-use Rattle.apdu.specs.Words.{same_bytes, is_one_of, path_is_in}
+use Rattle.apdu.specs.Words.{same_bytes}
 use Rattle.apdu.specs.Apdu.{select_ins, get_response_ins, read_binary_ins}
 use Rattle.fcp.specs.declared.control.ArrRef.{ArrRef}
 use Rattle.card_model.specs.declared.world.FileState.{FileState}
-use Rattle.card_model.specs.declared.world.Change.{Change}
 use Rattle.card_model.specs.declared.world.ChannelState.{ChannelState}
 use Rattle.card_model.specs.declared.world.CardState.{CardState}
 use Rattle.card_model.specs.declared.world.World.{World}
-use Rattle.card_model.specs.Card.{application_id, usim_of, file_at, file_of, rows_of, fields_of_file, current_parameters, change_command}
-use Rattle.refresh_cmd.specs.Proactive.{read_proactive, refresh_type, command_of}
+use Rattle.card_model.specs.Card.{application_id, usim_of, file_at, file_of, rows_of, fields_of_file, current_parameters}
 use Rattle.card_model.specs.Step.{card_inside}
 use Rattle.card_effects.specs.Effect.{basic, IsMisfit}
 use Rattle.card_effects.specs.Basic.{HasCurrent}
-use Rattle.card_effects.specs.Fine.{FineFiles, FineImages}
 use Rattle.card_effects.specs.Rows.{RowsTrue}
 use Rattle.script_reader.specs.declared.types.Script.{Script}
 use Rattle.report.specs.declared.line.Line.{Line}
@@ -41,30 +37,6 @@ use Rattle.rules.specs.Rules.{has_right_response}
 abbrev pub are_responses_right : Script → List Line → Bool
 are_responses_right s [] = true
 are_responses_right s (l ∷ earlier) = are_responses_right s earlier && has_right_response (world_of s earlier) l
-
--- ---- what a script that keeps its rules comes to: of a change
-
-abbrev pub tells_files : Change → Bool
-tells_files ch = is_one_of ch.qualifier (0 ∷ 4 ∷ 5 ∷ 6 ∷ []) || (nat_lt ch.qualifier 7 && list_all (λ (f : FileState). path_is_in ch.list f.path) ch.files)
-
-pub record FineChange (ch : Change) : Type 0 where
-  -- the terminal reads the command as it is
-  pub reads : read_proactive (change_command ch) ≡ Ok (command_of 1 ch.kind ch.qualifier ch.list)
-  -- it is a REFRESH that tells each file that it changes, or changes none
-  pub honest : ((length ch.files == 0) || ((ch.kind == refresh_type) && tells_files ch)) ≡ true
-
-abbrev pub FineChanges : List Change → Type 0
-FineChanges changes = (i : ℕ) (ch : Change) → slice_get changes i ≡ Some ch → FineChange ch
-
--- ---- and of the world that it begins with
-
-abbrev pub FineCards : List CardState → Type 0
-FineCards cards = (i : ℕ) (card : CardState) → slice_get cards i ≡ Some card → FineFiles card.files
-
-pub record Sane (w : World) : Type 0 where
-  pub cards : FineCards w.cards
-  pub changes : FineChanges w.changes
-  pub changed : FineImages w.changes
 
 -- ---- the selection
 
