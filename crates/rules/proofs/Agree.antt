@@ -15,13 +15,12 @@ use Rattle.report.specs.declared.line.Line.TheVariants as line
 use Rattle.families.specs.Families.{phonebook, fixed, all_families, family_paths, family_path}
 use Rattle.epoch_cache.specs.declared.cached.CachedFile.{CachedFile}
 use Rattle.epoch_cache.specs.Cache.{forgotten, is_current}
-use Rattle.rules.specs.declared.edits.Attempt.{Attempt}
 use Rattle.rules.specs.declared.due.Due.TheVariants.{Publish as publish}
 use Rattle.rules.specs.Due.{due, kept_text}
 use Rattle.rules.specs.After.{decision_at, kept_of}
 use Rattle.rules.specs.Rules.{has_right_response}
 use Rattle.rules.specs.State.{first_world, world_of, shown_in, same_shown}
-use Rattle.rules.specs.Agreement.{are_responses_right, TiedInside, edit_at, IsPlanned}
+use Rattle.rules.specs.Agreement.{are_responses_right, TiedInside, edit_at, is_planned, IsPlanned}
 use Rattle.rules.proofs.Sane.{Sane}
 use Rattle.rules.proofs.Worlds.{get_set}
 use Rattle.rules.proofs.Selected.{answers_right}
@@ -97,5 +96,5 @@ due_is_shown s lines f rules right one is = due_by s lines f rules right one is 
 
 -- ---- what is planned
 
-pub planned_for_card : (s : Script) (lines : List Line) (l : Line) (card : CardState) (f : ℕ) (e : Edit) (a : Attempt) → keeps_rules s ≡ true → are_responses_right s lines ≡ true → card_inside (world_of s lines) ≡ Some card → is_one_of f (phonebook ∷ fixed ∷ []) ≡ true → edit_at s l (kept_of s lines) ≡ Some (f, e) → (decision_at s l (kept_of s lines)).attempt ≡ Some a → IsPlanned card (kept_of s lines) f e a
-planned_for_card s lines l card f e a rules right inside one edit begins = planned_true s card (kept_of s lines) l f e a (kept_agrees s lines rules right card inside).files one edit begins
+pub planned_for_card : (s : Script) (lines : List Line) (l : Line) (card : CardState) (f : ℕ) (e : Edit) → keeps_rules s ≡ true → are_responses_right s lines ≡ true → card_inside (world_of s lines) ≡ Some card → is_one_of f (phonebook ∷ fixed ∷ []) ≡ true → edit_at s l (kept_of s lines) ≡ Some (f, e) → is_planned (decision_at s l (kept_of s lines)) ≡ true → IsPlanned card (kept_of s lines) f e (decision_at s l (kept_of s lines))
+planned_for_card s lines l card f e rules right inside one edit planned = planned_true s card (kept_of s lines) l f e (kept_agrees s lines rules right card inside).files one edit planned

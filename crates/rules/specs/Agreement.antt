@@ -1,5 +1,5 @@
 -- What is kept agrees with the card in the slot: its selection, the exchanges of a command, current files and readings.
-use Rattle.std.specs.Prelude.{◌≡◌, ◌⊎◌, ◌==◌, ◌&&◌, ℕ, Bool, true, false, List, [], ◌∷◌, Option, Some, None, option_and_then, Ok}
+use Rattle.std.specs.Prelude.{◌≡◌, ◌⊎◌, ◌==◌, ◌&&◌, ◌||◌, ℕ, Bool, true, false, List, [], ◌∷◌, Option, Some, None, option_and_then, is_some, Ok, Err}
 use Rattle.apdu.specs.Values.{CommandValue}
 use Rattle.apdu.specs.Words.{same_bytes}
 use Rattle.apdu.specs.Apdu.{select_ins, get_response_ins, read_binary_ins}
@@ -17,6 +17,7 @@ use Rattle.script_reader.specs.declared.types.Script.{Script}
 use Rattle.report.specs.declared.line.Line.{Line}
 use Rattle.report.specs.declared.line.Line.TheVariants as line
 use Rattle.adn.specs.declared.edit.Edit.{Edit}
+use Rattle.adn.specs.declared.edit.PlanError.{PlanError}
 use Rattle.families.specs.Families.{family_path, family_plan}
 use Rattle.link.specs.declared.chain.Chain.{Chain}
 use Rattle.link.specs.Commands.{is_basic_select, named_path}
@@ -24,6 +25,9 @@ use Rattle.epoch_cache.specs.declared.cached.CachedFile.{CachedFile}
 use Rattle.loader.specs.Values.{ReadingValue}
 use Rattle.rules.specs.declared.kept.Job.{Job}
 use Rattle.rules.specs.declared.kept.Kept.{Kept}
+use Rattle.rules.specs.declared.kept.Decision.{Decision}
+use Rattle.rules.specs.declared.kept.Work.{Work}
+use Rattle.rules.specs.declared.kept.Work.TheVariants.{Rests as rests, Refuses as refuses, Lacks as lacks, Sends as sends, Reads as reads, Writes as writes, Resets as resets, Happens as happens}
 use Rattle.rules.specs.declared.edits.Attempt.{Attempt}
 use Rattle.rules.specs.Editing.{update_need, card_need}
 use Rattle.rules.specs.Kept.{operation_at, operation_now}
@@ -152,8 +156,23 @@ edit_at s (line.Turn a) k = edit_of (operation_now s a k.jobs)
 edit_at s (line.Begin a i) k = edit_of (operation_at s a i)
 edit_at s l k = None
 
--- an attempt that begins here has the plan for the card, and what its updates ask for is what the card asks for
-pub record IsPlanned (card : CardState) (k : Kept) (f : ℕ) (e : Edit) (a : Attempt) : Type 0 where
-  pub plan : family_plan f e (λ path. rows_of path card) ≡ Ok a.plan
+-- it rests on a plan
+abbrev pub is_work_planned : Work → Bool
+is_work_planned (refuses refusal) = true
+is_work_planned (lacks key) = true
+is_work_planned rests = false
+is_work_planned (sends c) = false
+is_work_planned (reads path) = false
+is_work_planned writes = false
+is_work_planned resets = false
+is_work_planned (happens event) = false
+
+abbrev pub is_planned : Decision → Bool
+is_planned d = is_some d.attempt || is_work_planned d.work
+
+-- what is decided here has the plan for the card, or its refusal, and what its updates ask for is what the card asks for
+pub record IsPlanned (card : CardState) (k : Kept) (f : ℕ) (e : Edit) (d : Decision) : Type 0 where
+  pub plan : (a : Attempt) → d.attempt ≡ Some a → family_plan f e (λ path. rows_of path card) ≡ Ok a.plan
+  pub refusal : (r : PlanError) → d.work ≡ refuses r → family_plan f e (λ path. rows_of path card) ≡ Err r
   pub main_need : update_need k.files (family_path f 0) ≡ card_need card (family_path f 0)
   pub extension_need : update_need k.files (family_path f 1) ≡ card_need card (family_path f 1)

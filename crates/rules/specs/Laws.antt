@@ -18,8 +18,7 @@ use Rattle.epoch_cache.specs.Cache.{taken, is_current}
 use Rattle.rules.specs.Due.{due, kept_text}
 use Rattle.rules.specs.After.{decision_at, kept_of}
 use Rattle.rules.specs.State.{world_of, view_in, shown_in, same_shown}
-use Rattle.rules.specs.Agreement.{are_responses_right, is_application, TiedInside, edit_at, IsPlanned}
-use Rattle.rules.specs.declared.edits.Attempt.{Attempt}
+use Rattle.rules.specs.Agreement.{are_responses_right, is_application, TiedInside, edit_at, is_planned, IsPlanned}
 use Rattle.adn.specs.declared.edit.Edit.{Edit}
 use Rattle.script_reader.specs.Rules.{keeps_rules}
 use Rattle.rules.specs.declared.holdings.Session.{Session}
@@ -87,9 +86,9 @@ KeptAgrees = (s : Script) (lines : List Line) → keeps_rules s ≡ true → are
 abbrev pub ShowsCard : Type 0
 ShowsCard = (s : Script) (lines : List Line) (f : ℕ) → keeps_rules s ≡ true → are_responses_right s lines ≡ true → is_one_of f all_families ≡ true → due s (kept_of s lines) ≡ publish f → same_shown (shown_in (world_of s lines) f) (Some (kept_text f (kept_of s lines))) ≡ true
 
--- an attempt that begins behind them has the plan for the card in the slot
+-- what an edit decides behind them by a plan, it decides by the plan for the card in the slot
 abbrev pub PlansForCard : Type 0
-PlansForCard = (s : Script) (lines : List Line) (l : Line) (card : CardState) (f : ℕ) (e : Edit) (a : Attempt) → keeps_rules s ≡ true → are_responses_right s lines ≡ true → card_inside (world_of s lines) ≡ Some card → is_one_of f (phonebook ∷ fixed ∷ []) ≡ true → edit_at s l (kept_of s lines) ≡ Some (f, e) → (decision_at s l (kept_of s lines)).attempt ≡ Some a → IsPlanned card (kept_of s lines) f e a
+PlansForCard = (s : Script) (lines : List Line) (l : Line) (card : CardState) (f : ℕ) (e : Edit) → keeps_rules s ≡ true → are_responses_right s lines ≡ true → card_inside (world_of s lines) ≡ Some card → is_one_of f (phonebook ∷ fixed ∷ []) ≡ true → edit_at s l (kept_of s lines) ≡ Some (f, e) → is_planned (decision_at s l (kept_of s lines)) ≡ true → IsPlanned card (kept_of s lines) f e (decision_at s l (kept_of s lines))
 
 -- ---- what is kept, and looking back; over every list of lines
 
