@@ -12,16 +12,16 @@ use Rattle.script_reader.specs.declared.types.Script.{Script}
 use Rattle.script_reader.specs.Rules.{keeps_rules}
 use Rattle.report.specs.declared.line.Line.{Line}
 use Rattle.report.specs.declared.line.Line.TheVariants as line
-use Rattle.families.specs.Families.{all_families, family_paths, family_path}
+use Rattle.families.specs.Families.{phonebook, fixed, all_families, family_paths, family_path}
 use Rattle.epoch_cache.specs.declared.cached.CachedFile.{CachedFile}
 use Rattle.epoch_cache.specs.Cache.{forgotten, is_current}
-use Rattle.editor.specs.declared.editing.Attempt.{Attempt}
 use Rattle.rules.specs.declared.due.Due.TheVariants.{Publish as publish}
 use Rattle.rules.specs.Due.{due, kept_text}
 use Rattle.rules.specs.After.{decision_at, kept_of}
 use Rattle.rules.specs.Rules.{has_right_response}
 use Rattle.rules.specs.State.{first_world, world_of, shown_in, same_shown}
-use Rattle.rules.specs.Agreement.{are_responses_right, has_files_apart, Sane, TiedInside, edit_at, IsPlanned}
+use Rattle.rules.specs.Agreement.{are_responses_right, TiedInside, edit_at, is_planned, IsPlanned}
+use Rattle.rules.proofs.Sane.{Sane}
 use Rattle.rules.proofs.Worlds.{get_set}
 use Rattle.rules.proofs.Selected.{answers_right}
 use Rattle.rules.proofs.Scripts.{worlds_sane, inside_fine}
@@ -40,8 +40,8 @@ fine_lines : (s : Script) (lines : List Line) → Sane (first_world s) → FineL
 fine_lines s [] f = tt
 fine_lines s (l ∷ earlier) f = (fine_lines s earlier f, record { before = fine_world _ (worlds_sane s earlier f); behind = fine_world _ (worlds_sane s (l ∷ earlier) f) })
 
-pub kept_agrees : (s : Script) (lines : List Line) → keeps_rules s ≡ true → has_files_apart s ≡ true → are_responses_right s lines ≡ true → TiedInside (world_of s lines) (kept_of s lines)
-kept_agrees s lines rules apart right = sound s lines right (fine_lines s lines (sane_script s rules apart))
+pub kept_agrees : (s : Script) (lines : List Line) → keeps_rules s ≡ true → are_responses_right s lines ≡ true → TiedInside (world_of s lines) (kept_of s lines)
+kept_agrees s lines rules right = sound s lines right (fine_lines s lines (sane_script s rules))
 
 -- ---- an empty slot
 
@@ -87,14 +87,14 @@ due_there s lines f right one is n =
     let here = member (kept_of s lines).files (family_paths f) 0 (family_path f 0) two.0 (due-current s (kept_of s lines) f is) in
     true≢false (sym here ∙ ap (λ (fs : List CachedFile). is_current fs (family_path f 0)) files)
 
-due_by : (s : Script) (lines : List Line) (f : ℕ) → keeps_rules s ≡ true → has_files_apart s ≡ true → are_responses_right s lines ≡ true → is_one_of f all_families ≡ true → due s (kept_of s lines) ≡ publish f → (o : Option CardState) → card_inside (world_of s lines) ≡ o → same_shown (shown_in (world_of s lines) f) (Some (kept_text f (kept_of s lines))) ≡ true
-due_by s lines f rules apart right one is None n = absurd (due_there s lines f right one is n)
-due_by s lines f rules apart right one is (Some card) inside = told_true s (kept_of s lines) (world_of s lines) f card inside (kept_agrees s lines rules apart right card inside).files one is
+due_by : (s : Script) (lines : List Line) (f : ℕ) → keeps_rules s ≡ true → are_responses_right s lines ≡ true → is_one_of f all_families ≡ true → due s (kept_of s lines) ≡ publish f → (o : Option CardState) → card_inside (world_of s lines) ≡ o → same_shown (shown_in (world_of s lines) f) (Some (kept_text f (kept_of s lines))) ≡ true
+due_by s lines f rules right one is None n = absurd (due_there s lines f right one is n)
+due_by s lines f rules right one is (Some card) inside = told_true s (kept_of s lines) (world_of s lines) f card inside (kept_agrees s lines rules right card inside).files one is
 
-pub due_is_shown : (s : Script) (lines : List Line) (f : ℕ) → keeps_rules s ≡ true → has_files_apart s ≡ true → are_responses_right s lines ≡ true → is_one_of f all_families ≡ true → due s (kept_of s lines) ≡ publish f → same_shown (shown_in (world_of s lines) f) (Some (kept_text f (kept_of s lines))) ≡ true
-due_is_shown s lines f rules apart right one is = due_by s lines f rules apart right one is (card_inside (world_of s lines)) refl
+pub due_is_shown : (s : Script) (lines : List Line) (f : ℕ) → keeps_rules s ≡ true → are_responses_right s lines ≡ true → is_one_of f all_families ≡ true → due s (kept_of s lines) ≡ publish f → same_shown (shown_in (world_of s lines) f) (Some (kept_text f (kept_of s lines))) ≡ true
+due_is_shown s lines f rules right one is = due_by s lines f rules right one is (card_inside (world_of s lines)) refl
 
 -- ---- what is planned
 
-pub planned_for_card : (s : Script) (lines : List Line) (l : Line) (card : CardState) (f : ℕ) (e : Edit) (a : Attempt) → keeps_rules s ≡ true → has_files_apart s ≡ true → are_responses_right s lines ≡ true → card_inside (world_of s lines) ≡ Some card → is_one_of f all_families ≡ true → edit_at s l (kept_of s lines) ≡ Some (f, e) → (decision_at s l (kept_of s lines)).attempt ≡ Some a → IsPlanned card (kept_of s lines) f e a
-planned_for_card s lines l card f e a rules apart right inside one edit begins = planned_true s card (kept_of s lines) l f e a (kept_agrees s lines rules apart right card inside).files one edit begins
+pub planned_for_card : (s : Script) (lines : List Line) (l : Line) (card : CardState) (f : ℕ) (e : Edit) → keeps_rules s ≡ true → are_responses_right s lines ≡ true → card_inside (world_of s lines) ≡ Some card → is_one_of f (phonebook ∷ fixed ∷ []) ≡ true → edit_at s l (kept_of s lines) ≡ Some (f, e) → is_planned (decision_at s l (kept_of s lines)) ≡ true → IsPlanned card (kept_of s lines) f e (decision_at s l (kept_of s lines))
+planned_for_card s lines l card f e rules right inside one edit planned = planned_true s card (kept_of s lines) l f e (kept_agrees s lines rules right card inside).files one edit planned

@@ -22,13 +22,15 @@ use Rattle.epoch_cache.specs.declared.cached.Written.TheVariants as written
 use Rattle.epoch_cache.specs.Cache.{is_update, written_by, is_overwritten, touch_exchanged, is_moved, is_spoiled, is_of, is_row_of, patched, written_files, forgotten, with_completed}
 use Rattle.loader.specs.Values.{ReadingValue}
 use Rattle.loader.specs.Reading.{unspoiled}
-use Rattle.rules.specs.Agreement.{FineChanges, IsSelected, FileTrue, FilesTrue, arr_at, ReadingTrue, ReadingsTrue}
+use Rattle.rules.specs.Agreement.{is_application, HasFile, IsSelected, FileTrue, FilesTrue, arr_at, ReadingTrue, ReadingsTrue}
+use Rattle.rules.proofs.Sane.{FineChanges}
 use Rattle.rules.proofs.Truth.{FineCard, sees}
 use Rattle.rules.proofs.Readings.{CompletedTrue, same_reading, file_of_same}
 use Rattle.rules.proofs.Spared.{WritesRow, Writes, by_raw, unknown, one_row, writes, row_written, spared}
 
 pub same_true : (old new : CardState) (file : CachedFile) → new.aids ≡ old.aids → file_at file.path new ≡ file_at file.path old → FileTrue old file → FileTrue new file
-same_true old new file a f t =
+same_true old new file a f u n =
+    let t = u n in
     let g = file_of_same old new file.path a f in
     record { content = t.content ∙ ap (λ (o : Option FileState). unwrap_or (option_map (λ (x : FileState). x.rows) o) missing) (sym g); arr = t.arr ∙ ap (λ (o : Option FileState). option_and_then (λ (x : FileState). x.arr) o) (sym g) }
 
@@ -133,30 +135,40 @@ module _ (changes : List Change) (card : CardState) (c : CommandValue) (p : Card
             by_test false q = refl
             by_test true q = absurd (let e : a ≡ b = same_bytes_is a b q in let r : same_bytes b a ≡ true = subst (λ (y : List ℕ). same_bytes y a ≡ true) e (same_bytes_self a) in false≢true (sym h ∙ r))
 
-    file_before : file_of w.path card ≡ Some o.file
-    file_before = sees card w.now.channel w.path fine w.now.visible ∙ o.wrote.before
+    module _ (n : is_application w.path ≡ false) where
+      file_before : file_of w.path card ≡ Some o.file
+      file_before = sees card w.now.channel w.path (w.now.visible n) ∙ o.wrote.before
 
-    file_behind : file_of w.path p.0 ≡ Some (with_record o.file (c.p1 - 1) c.body)
-    file_behind = seen_still card p.0 w.path o.file aids file_before ∙ o.wrote.behind
+      file_behind : file_of w.path p.0 ≡ Some (with_record o.file (c.p1 - 1) c.body)
+      file_behind = seen_still card p.0 w.path o.file aids file_before ∙ o.wrote.behind
 
-    content_before : (file : CachedFile) → FileTrue card file → file.path ≡ w.path → file.content ≡ o.file.rows
-    content_before file t path = t.content ∙ ap (λ (x : List ℕ). rows_of x card) path ∙ ap (λ (x : Option FileState). unwrap_or (option_map (λ (y : FileState). y.rows) x) missing) file_before
+      content_before : (file : CachedFile) → HasFile card file → file.path ≡ w.path → file.content ≡ o.file.rows
+      content_before file t path = t.content ∙ ap (λ (x : List ℕ). rows_of x card) path ∙ ap (λ (x : Option FileState). unwrap_or (option_map (λ (y : FileState). y.rows) x) missing) file_before
 
-    own_true : (file : CachedFile) → FileTrue card file → file.path ≡ w.path → FileTrue p.0 (record file { content = with_row (c.p1 - 1) c.body file.content })
-    own_true file t path =
-        let content = content_before file t path in
-        let arr : file.arr ≡ o.file.arr = t.arr ∙ ap (λ (x : List ℕ). arr_at x card) path ∙ ap (λ (x : Option FileState). option_and_then (λ (y : FileState). y.arr) x) file_before in
-        record {
-          content = ap (with_row (c.p1 - 1) c.body) content ∙ sym (ap (λ (x : List ℕ). rows_of x p.0) path ∙ ap (λ (x : Option FileState). unwrap_or (option_map (λ (y : FileState). y.rows) x) missing) file_behind);
-          arr = arr ∙ sym (ap (λ (x : List ℕ). arr_at x p.0) path ∙ ap (λ (x : Option FileState). option_and_then (λ (y : FileState). y.arr) x) file_behind);
-        }
+      own_true : (file : CachedFile) → HasFile card file → file.path ≡ w.path → HasFile p.0 (record file { content = with_row (c.p1 - 1) c.body file.content })
+      own_true file t path =
+          let content = content_before file t path in
+          let arr : file.arr ≡ o.file.arr = t.arr ∙ ap (λ (x : List ℕ). arr_at x card) path ∙ ap (λ (x : Option FileState). option_and_then (λ (y : FileState). y.arr) x) file_before in
+          record {
+            content = ap (with_row (c.p1 - 1) c.body) content ∙ sym (ap (λ (x : List ℕ). rows_of x p.0) path ∙ ap (λ (x : Option FileState). unwrap_or (option_map (λ (y : FileState). y.rows) x) missing) file_behind);
+            arr = arr ∙ sym (ap (λ (x : List ℕ). arr_at x p.0) path ∙ ap (λ (x : Option FileState). option_and_then (λ (y : FileState). y.arr) x) file_behind);
+          }
+
+      row_true : (file : CachedFile) → HasFile card file → file.path ≡ w.path → HasFile p.0 (if is_row_of c.p1 c.body file.content then record file { content = with_row (c.p1 - 1) c.body file.content } else file)
+      row_true file t path =
+          let row : is_row_of c.p1 c.body file.content ≡ true = ap (is_row_of c.p1 c.body) (content_before file t path) ∙ row_fits o.file c o.fits in
+          subst (λ (b : Bool). HasFile p.0 (if b then record file { content = with_row (c.p1 - 1) c.body file.content } else file)) (sym row) (own_true file t path)
+
+    same_path : (file : CachedFile) (b : Bool) → (if b then record file { content = with_row (c.p1 - 1) c.body file.content } else file).path ≡ file.path
+    same_path file true = refl
+    same_path file false = refl
 
     patched_true : (file : CachedFile) → FileTrue card file → (a : Bool) → is_of w.path file ≡ a → FileTrue p.0 (if a && is_row_of c.p1 c.body file.content then record file { content = with_row (c.p1 - 1) c.body file.content } else file)
-    patched_true file t false h = other_true file t h
-    patched_true file t true h =
+    patched_true file t false h m = other_true file t h m
+    patched_true file t true h m =
         let path : file.path ≡ w.path = same_bytes_is file.path w.path h in
-        let row : is_row_of c.p1 c.body file.content ≡ true = ap (is_row_of c.p1 c.body) (content_before file t path) ∙ row_fits o.file c o.fits in
-        subst (λ (b : Bool). FileTrue p.0 (if b then record file { content = with_row (c.p1 - 1) c.body file.content } else file)) (sym row) (own_true file t path)
+        let n : is_application file.path ≡ false = ap is_application (sym (same_path file (is_row_of c.p1 c.body file.content))) ∙ m in
+        row_true (ap is_application (sym path) ∙ n) file (t n) path
 
     pub patched_all : (files : List CachedFile) → FilesTrue card files → FilesTrue p.0 (patched (Some w.path) c files)
     patched_all [] t = tt

@@ -18,7 +18,8 @@ use Rattle.loader.specs.Reading.{reading_after, file_of_complete, unspoiled, tel
 use Rattle.rules.specs.declared.kept.Job.{Job}
 use Rattle.rules.specs.Kept.{first_job, job_of, changed_at, change_at}
 use Rattle.rules.specs.After.{completed_of, readings_exchanged}
-use Rattle.rules.specs.Agreement.{FineChanges, IsSelected, Stands, ChainTied, FilesTrue, ReadingsTrue, JobsTrue}
+use Rattle.rules.specs.Agreement.{IsSelected, Stands, ChainTied, FilesTrue, ReadingsTrue, JobsTrue}
+use Rattle.rules.proofs.Sane.{FineChanges}
 use Rattle.rules.proofs.Chains.{stands_first}
 use Rattle.rules.proofs.Truth.{FineCard}
 use Rattle.rules.proofs.Readings.{CompletedTrue, goes_true, file_complete_true, readings_after_true}

@@ -22,9 +22,9 @@ use Rattle.card_effects.proofs.Rows.{linear_more, binary_more, offset_is}
 use Rattle.card_effects.proofs.Fine.{transparent_width}
 use Rattle.card_effects.specs.Basic.{HasCurrent}
 use Rattle.loader.specs.Reading.{read_by, read_row, read_piece}
-use Rattle.rules.specs.Agreement.{SameButLe, Stands, itself, again, waits}
+use Rattle.rules.specs.Agreement.{is_application, SameButLe, Stands, itself, again, waits}
 use Rattle.rules.proofs.Chains.{is_on_basic}
-use Rattle.rules.proofs.Truth.{FineCard, file_there}
+use Rattle.rules.proofs.Truth.{file_there}
 
 -- a READ that was done, in the words of the file that is current on the basic channel
 pub record ReadDone (card : CardState) (file : FileState) (p : CardState × ResponseValue) (rows : List (List ℕ)) : Type 0 where
@@ -51,9 +51,9 @@ not_linear Transparent h = refl
 not_linear Linear h = absurd (cc)
 not_linear Directory h = refl
 
-module _ (changes : List Change) (card : CardState) (c : CommandValue) (p : CardState × ResponseValue) (e : Effect changes card c p) (path : List ℕ) (fine_card : FineCard card) (file : FileState) (fine : FineFile file) (now : HasCurrent card path) (at : file_at path card ≡ Some file) (s : is_success p.1.sw ≡ true) where
+module _ (changes : List Change) (card : CardState) (c : CommandValue) (p : CardState × ResponseValue) (e : Effect changes card c p) (path : List ℕ) (n : is_application path ≡ false) (file : FileState) (fine : FineFile file) (now : HasCurrent card path) (at : file_at path card ≡ Some file) (s : is_success p.1.sw ≡ true) where
   here : current_file card now.channel ≡ Some file
-  here = file_there card now.channel path fine_card now.current now.visible ∙ at
+  here = file_there card now.channel path now.current (now.visible n) ∙ at
 
   same_file : (channel : ChannelState) (other : FileState) → channel ≡ now.channel → current_file card channel ≡ Some other → other ≡ file
   same_file channel other same found = let f : current_file card now.channel ≡ Some other = ap (current_file card) (sym same) ∙ found in let h = here in cc

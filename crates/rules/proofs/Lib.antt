@@ -11,6 +11,7 @@ mod HandlesAndSessions
 mod SeenBefore
 mod Attempts
 mod FirstUpdates
+mod Sane
 mod Worlds
 mod Selected
 mod Chains

@@ -47,7 +47,7 @@ no_file_on card channel path h d = none_by (same_bytes path (application_id ∷ 
     (selectable_by path (if same_bytes path (application_id ∷ []) then is_some channel.app else ((is_some (file_at path card) || is_directory_path path card) && is_visible card channel path)) true h) d
 
 none_true : (card : CardState) (path : List ℕ) → file_of path card ≡ None → FileTrue card (no_file path)
-none_true card path h = record { content = rw h refl; arr = rw h refl }
+none_true card path h n = record { content = rw h refl; arr = rw h refl }
 
 module _ (changes : List Change) (card : CardState) (c : CommandValue) (p : CardState × ResponseValue) (e : Effect changes card c p) (selected : Option (List ℕ)) (f : Final) (stands : Stands card selected f.command c) (response : f.response ≡ p.1) (started : Bool) (ready : started ≡ true → IsStarted card) where
   missing_not_acted : (p.1.sw == 0x6A82) ≡ true → acted p.1.sw ≡ false

@@ -21,7 +21,7 @@ use Rattle.link.specs.Commands.{is_reading_select, named_path}
 use Rattle.epoch_cache.specs.declared.cached.CachedFile.{CachedFile}
 use Rattle.loader.specs.Values.{ReadingValue}
 use Rattle.loader.specs.Reading.{begun_by, begun, further, reading_after, reading_of, reading_at, is_basic_read, next_read, is_complete, file_read, file_of_complete, row_read, asked_len, read_by, read_row, read_piece, read_number, reads_needed, content_by, is_reading_of, path_read, without_path, without_reading, with_reading, readings_after}
-use Rattle.rules.specs.Agreement.{IsSelected, Stands, FileTrue, ReadingTrue, ReadingsTrue}
+use Rattle.rules.specs.Agreement.{is_application, HasFile, HasReading, IsSelected, Stands, FileTrue, ReadingTrue, ReadingsTrue}
 use Rattle.rules.proofs.Chains.{same_command_is}
 use Rattle.rules.proofs.Complete.{complete_content}
 use Rattle.rules.proofs.Truth.{FineCard, DirectoryTrue, GoesTrue, Gave, gave, begun_by_true, find_passes}
@@ -61,7 +61,7 @@ file_of_same old new path a f = ap (λ (aids : List (List ℕ)). if is_in_applic
     usim_in aids = usim_of (record new { aids = aids })
 
 pub same_reading : (old new : CardState) (g : ReadingValue) → new.aids ≡ old.aids → file_at g.path new ≡ file_at g.path old → ReadingTrue old g → ReadingTrue new g
-same_reading old new g a f t = record { file = t.file; at = f ∙ t.at; seen = file_of_same old new g.path a f ∙ t.seen ∙ sym f; control = t.control; rows = t.rows }
+same_reading old new g a f u n = let t = u n in record { file = t.file; at = f ∙ t.at; seen = file_of_same old new g.path a f ∙ t.seen ∙ sym f; control = t.control; rows = t.rows }
 
 -- ---- the step
 
@@ -69,30 +69,33 @@ module _ (changes : List Change) (card : CardState) (c : CommandValue) (p : Card
   success_is : is_success f.response.sw ≡ true → is_success p.1.sw ≡ true
   success_is s = ap (λ (r : ResponseValue). is_success r.sw) (sym response) ∙ s
 
-  with_rows : (g : ReadingValue) (rows : List (List ℕ)) → (t : ReadingTrue card g) → ReadDone card t.file p rows → GoesTrue p.0 (Some (record g { rows = rows }))
-  with_rows g rows t d =
+  with_rows : (g : ReadingValue) (rows : List (List ℕ)) → (t : HasReading card g) → ReadDone card t.file p rows → GoesTrue p.0 (Some (record g { rows = rows }))
+  with_rows g rows t d n =
       let k = d.keeps in
       let same : file_at g.path p.0 ≡ file_at g.path card = let q = k.files in rw q refl in
       inl (record { file = t.file; at = same ∙ t.at; seen = file_of_same card p.0 g.path k.aids same ∙ t.seen ∙ sym same; control = t.control; rows = d.rows_true })
 
   module _ (path : List ℕ) (now : HasCurrent card path) (stands : Stands card (Some path) f.command c) where
-    further_rows : (g : ReadingValue) → ReadingTrue card g → g.path ≡ path → is_success f.response.sw ≡ true → f.command ≡ read_number g.control (length g.rows) → GoesTrue p.0 (Some (record g { rows = g.rows ++ row_read f ∷ [] }))
-    further_rows g t same_path s is = elim (kinds t.file.rows.kind t.file.rows.width t.file.rows.rows fine_file.rows) [
+    rows_by : (g : ReadingValue) → HasReading card g → g.path ≡ path → is_success f.response.sw ≡ true → f.command ≡ read_number g.control (length g.rows) → GoesTrue p.0 (Some (record g { rows = g.rows ++ row_read f ∷ [] }))
+    rows_by g t same_path s is n = elim (kinds t.file.rows.kind t.file.rows.width t.file.rows.rows fine_file.rows) [
       | inl linear ↦ with_rows g (g.rows ++ row_read f ∷ []) t (
           let first : f.command ≡ read_row (fields_of_file t.file) (length g.rows) = commands ∙ row_by t.file.rows.kind (fields_of_file t.file) (length g.rows) linear in
           let le : asked_len f.command.le ≡ t.file.rows.width = ap (λ (x : CommandValue). asked_len x.le) first ∙ rw linear refl in
           subst (λ (row : List ℕ). ReadDone card t.file p (g.rows ++ row ∷ [])) (sym (row_is t.file.rows.width le))
-          (record_step changes card c p e path fine t.file fine_file now at_path (success_is s) f.command g.rows stands first linear t.rows))
+          (record_step changes card c p e path at_named t.file fine_file now at_path (success_is s) f.command g.rows stands first linear t.rows)) n
       | inr transparent ↦ with_rows g (g.rows ++ row_read f ∷ []) t (
           let first : f.command ≡ read_piece (fields_of_file t.file) (length g.rows) = commands ∙ piece_by t.file.rows.kind (fields_of_file t.file) (length g.rows) transparent in
-          let n : ℕ = min 255 (content_size t.file.rows - length g.rows * 255) in
-          let le : asked_len f.command.le ≡ n = ap (λ (x : CommandValue). asked_len x.le) first in
-          subst (λ (row : List ℕ). ReadDone card t.file p (g.rows ++ row ∷ [])) (sym (row_is n le))
-          (binary_step changes card c p e path fine t.file fine_file now at_path (success_is s) f.command g.rows stands first transparent t.rows n refl))
+          let m : ℕ = min 255 (content_size t.file.rows - length g.rows * 255) in
+          let le : asked_len f.command.le ≡ m = ap (λ (x : CommandValue). asked_len x.le) first in
+          subst (λ (row : List ℕ). ReadDone card t.file p (g.rows ++ row ∷ [])) (sym (row_is m le))
+          (binary_step changes card c p e path at_named t.file fine_file now at_path (success_is s) f.command g.rows stands first transparent t.rows m refl)) n
     ]
       where
         fine_file : FineFile t.file
         fine_file = fine.files g.path t.file t.at
+
+        at_named : is_application path ≡ false
+        at_named = ap is_application (sym same_path) ∙ n
 
         at_path : file_at path card ≡ Some t.file
         at_path = ap (λ (x : List ℕ). file_at x card) (sym same_path) ∙ t.at
@@ -102,6 +105,9 @@ module _ (changes : List Change) (card : CardState) (c : CommandValue) (p : Card
 
         row_is : (n : ℕ) → asked_len f.command.le ≡ n → row_read f ≡ take n (filled_to 0xFF n p.1.body)
         row_is n le = ap (λ m. take m (filled_to 0xFF m f.response.body)) le ∙ ap (λ (r : ResponseValue). take n (filled_to 0xFF n r.body)) response
+
+    further_rows : (g : ReadingValue) → ReadingTrue card g → g.path ≡ path → is_success f.response.sw ≡ true → f.command ≡ read_number g.control (length g.rows) → GoesTrue p.0 (Some (record g { rows = g.rows ++ row_read f ∷ [] }))
+    further_rows g u same_path s is n = rows_by g (u n) same_path s is n
 
     next_is : (g : ReadingValue) → (b : Bool) → has_value (same_command f.command) (if b then None else Some (read_number g.control (length g.rows))) ≡ true → f.command ≡ read_number g.control (length g.rows)
     next_is g true h = absurd (cc)
@@ -142,7 +148,7 @@ module _ (changes : List Change) (card : CardState) (c : CommandValue) (p : Card
 needs_none : (g : ReadingValue) → g.control.kind ≡ Directory → is_complete g ≡ true
 needs_none g h = rw h (le-leb 0 (length g.rows) (omega arith))
 
-complete_true : (card : CardState) → FineCard card → (g : ReadingValue) → ReadingTrue card g ⊎ DirectoryTrue card g → is_complete g ≡ true → FileTrue card (file_read g)
+complete_true : (card : CardState) → FineCard card → (g : ReadingValue) → HasReading card g ⊎ DirectoryTrue card g → is_complete g ≡ true → HasFile card (file_read g)
 complete_true card fine g (inl t) h =
     let file : file_of g.path card ≡ Some t.file = t.seen ∙ t.at in
     let needed : nat_le (reads_needed (fields_of_file t.file)) (length g.rows) ≡ true = ap (λ (x : Fcp). nat_le (reads_needed x) (length g.rows)) (sym t.control) ∙ h in
@@ -164,15 +170,18 @@ file_complete_true card fine None t = tt
 file_complete_true card fine (Some g) t = by_test (is_complete g) refl
   where
     by_test : (b : Bool) → is_complete g ≡ b → CompletedTrue card (option_map file_read (if b then Some g else None))
-    by_test true h = complete_true card fine g t h
+    by_test true h = λ n. complete_true card fine g (t n) h
     by_test false h = tt
 
 -- ---- the job's list
 
-goes_on_true : (card : CardState) (gs : List ReadingValue) (g : ReadingValue) → ReadingsTrue card gs → ReadingTrue card g ⊎ DirectoryTrue card g → (b : Bool) → is_complete g ≡ b → ReadingsTrue card (if b then gs else gs ++ g ∷ [])
+no_directory : (card : CardState) (g : ReadingValue) → HasReading card g ⊎ DirectoryTrue card g → is_complete g ≡ false → HasReading card g
+no_directory card g (inl t) q = t
+no_directory card g (inr t) q = absurd (false≢true (sym q ∙ needs_none g t.kind))
+
+goes_on_true : (card : CardState) (gs : List ReadingValue) (g : ReadingValue) → ReadingsTrue card gs → GoesTrue card (Some g) → (b : Bool) → is_complete g ≡ b → ReadingsTrue card (if b then gs else gs ++ g ∷ [])
 goes_on_true card gs g h t true q = h
-goes_on_true card gs g h (inl t) false q = append_true card gs g h t
-goes_on_true card gs g h (inr t) false q = absurd (false≢true (sym q ∙ needs_none g t.kind))
+goes_on_true card gs g h t false q = append_true card gs g h (λ n. no_directory card g (t n) q)
 
 with_reading_true : (card : CardState) (o : Option ReadingValue) (gs : List ReadingValue) → GoesTrue card o → ReadingsTrue card gs → ReadingsTrue card (with_reading o gs)
 with_reading_true card None gs t h = h

@@ -13,7 +13,7 @@ use Rattle.report.specs.declared.line.Line.TheVariants as line
 use Rattle.rules.specs.State.{first_world, world_of, world_after}
 use Rattle.card_effects.specs.Fine.{FineFiles}
 use Rattle.card_effects.proofs.Effects.{effect}
-use Rattle.rules.specs.Agreement.{Sane}
+use Rattle.rules.proofs.Sane.{Sane}
 use Rattle.card_effects.proofs.Fine.{effect_fine}
 
 set_cases : {X : Type 0} (xs : List X) (j i : ℕ) (y x : X) → slice_get (slice_set xs j y) i ≡ Some x → (y ≡ x) ⊎ (slice_get xs i ≡ Some x)

@@ -33,7 +33,8 @@ use Rattle.rules.specs.Work.{family_read}
 use Rattle.rules.specs.After.{facts_of, is_raw_line, is_started, decision_at, job_beside, jobs_beside, own_job, framework_marked, kept_after, kept_of}
 use Rattle.rules.specs.Rules.{has_right_response}
 use Rattle.rules.specs.State.{world_of, world_after}
-use Rattle.rules.specs.Agreement.{are_responses_right, FineChanges, IsSelected, FilesTrue, ReadingsTrue, JobsTrue, Tied, TiedInside}
+use Rattle.rules.specs.Agreement.{are_responses_right, IsSelected, FilesTrue, ReadingsTrue, JobsTrue, Tied, TiedInside}
+use Rattle.rules.proofs.Sane.{FineChanges}
 use Rattle.rules.proofs.Worlds.{Alike, arm_alike}
 use Rattle.rules.proofs.Selected.{answers_right, basic_alike, selected_step, keeps_current}
 use Rattle.rules.proofs.Chains.{chain_tied}

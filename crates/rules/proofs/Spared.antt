@@ -25,7 +25,8 @@ use Rattle.epoch_cache.specs.declared.cached.Written.{Written}
 use Rattle.epoch_cache.specs.declared.cached.Written.TheVariants as written
 use Rattle.epoch_cache.specs.Cache.{refresh_of, handed_refresh, is_moved_by, is_update, is_row_update, written_by, is_raw_write, is_overwritten, touch_exchanged, is_spoiled}
 use Rattle.link.specs.Commands.{is_at}
-use Rattle.rules.specs.Agreement.{IsSelected, tells_files, FineChange, FineChanges}
+use Rattle.rules.specs.Agreement.{IsSelected}
+use Rattle.rules.proofs.Sane.{tells_files, FineChange, FineChanges}
 use Rattle.rules.proofs.Chains.{is_on_basic}
 
 armed_fine : (changes : List Change) (ch : Change) → FineChanges changes → (o : Option ℕ) → option_and_then (slice_get changes) o ≡ Some ch → FineChange ch

@@ -16,21 +16,24 @@ use Rattle.rules.specs.State.{view_in, content_on, shown_in, shown_on, same_show
 use Rattle.rules.specs.Laws.{Agrees}
 use Rattle.rules.proofs.Publishing.{due-text}
 use Rattle.card_effects.proofs.Same.{same_bytes_self, same_bytes_is}
-use Rattle.rules.specs.Agreement.{FileTrue, FilesTrue}
+use Rattle.rules.specs.Agreement.{is_application, FileTrue, FilesTrue}
 
-taken_if : (card : CardState) (path : List ℕ) (x file : CachedFile) (rest : Option CachedFile) → FileTrue card x → (rest ≡ Some file → file.content ≡ rows_of path card) → (b : Bool) → is_of path x ≡ b → (if b then Some x else rest) ≡ Some file → file.content ≡ rows_of path card
-taken_if card path x file rest t next true e h =
+taken_if : (card : CardState) (path : List ℕ) (x file : CachedFile) (rest : Option CachedFile) → is_application path ≡ false → FileTrue card x → (rest ≡ Some file → file.content ≡ rows_of path card) → (b : Bool) → is_of path x ≡ b → (if b then Some x else rest) ≡ Some file → file.content ≡ rows_of path card
+taken_if card path x file rest n t next true e h =
     let same : x ≡ file = cc in
     let name : x.path ≡ path = same_bytes_is x.path path e in
-    subst (λ (y : CachedFile). y.content ≡ rows_of path card) same (t.content ∙ ap (λ (q : List ℕ). rows_of q card) name)
-taken_if card path x file rest t next false e h = next h
+    subst (λ (y : CachedFile). y.content ≡ rows_of path card) same ((t (ap is_application name ∙ n)).content ∙ ap (λ (q : List ℕ). rows_of q card) name)
+taken_if card path x file rest n t next false e h = next h
 
-taken_true : (card : CardState) (path : List ℕ) (files : List CachedFile) (file : CachedFile) → FilesTrue card files → taken path files ≡ Some file → file.content ≡ rows_of path card
-taken_true card path [] file t h = absurd (cc)
-taken_true card path (x ∷ files) file t h = taken_if card path x file (taken path files) t.0 (taken_true card path files file t.1) (is_of path x) refl h
+taken_true : (card : CardState) (path : List ℕ) (files : List CachedFile) (file : CachedFile) → is_application path ≡ false → FilesTrue card files → taken path files ≡ Some file → file.content ≡ rows_of path card
+taken_true card path [] file n t h = absurd (cc)
+taken_true card path (x ∷ files) file n t h = taken_if card path x file (taken path files) n t.0 (taken_true card path files file n t.1) (is_of path x) refl h
+
+pub card_agrees : (card : CardState) (files : List CachedFile) → FilesTrue card files → Agrees files (λ path. rows_of path card)
+card_agrees card files t = record { same = λ path file n h. taken_true card path files file n t h }
 
 pub agrees : (w : World) (card : CardState) (files : List CachedFile) → card_inside w ≡ Some card → FilesTrue card files → Agrees files (view_in w)
-agrees w card files inside t = record { same = λ path file h. taken_true card path files file t h ∙ ap (λ (o : Option CardState). content_on o path) (sym inside) }
+agrees w card files inside t = record { same = λ path file n h. taken_true card path files file n t h ∙ ap (λ (o : Option CardState). content_on o path) (sym inside) }
 
 -- a publication that is due is what the card in the slot shows
 pub told_true : (s : Script) (k : Kept) (w : World) (f : ℕ) (card : CardState) → card_inside w ≡ Some card → FilesTrue card k.files → is_one_of f all_families ≡ true → due s k ≡ publish f → same_shown (shown_in w f) (Some (kept_text f k)) ≡ true

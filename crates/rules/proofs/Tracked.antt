@@ -21,7 +21,7 @@ use Rattle.rules.specs.State.{world_after, world_of, State, state_of}
 use Rattle.rules.specs.Rules.{has_right_response}
 use Rattle.rules.specs.Legal.{Tests, all_pass, changed_in, line_tests, is_legal_line, are_legal_lines}
 use Rattle.rules.specs.Agreement.{are_responses_right, IsSelected}
-use Rattle.rules.specs.Laws.{basic_in, current_on, Follows, FollowsInside}
+use Rattle.link.specs.Selected.{basic_in, current_on, Follows, FollowsInside}
 use Rattle.rules.proofs.States.{state_world}
 use Rattle.rules.proofs.Worlds.{arm_alike}
 use Rattle.rules.proofs.Selected.{answers_right, basic_alike, keeps_current, selected_step}

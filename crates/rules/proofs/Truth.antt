@@ -14,7 +14,7 @@ use Rattle.card_model.specs.declared.world.FileState.{FileState}
 use Rattle.card_model.specs.declared.world.ChannelState.{ChannelState}
 use Rattle.card_model.specs.declared.world.Change.{Change}
 use Rattle.card_model.specs.declared.world.CardState.{CardState}
-use Rattle.card_model.specs.Card.{application_id, is_in_application, usim_of, is_visible, file_at, file_of, file_seen, current_file, current_path, current_parameters, parameters_of_found, directory_parameters, fields_of_directory, file_parameters, aid_of, last_id, has_path}
+use Rattle.card_model.specs.Card.{application_id, is_in_application, usim_of, is_visible, file_at, file_of, current_file, current_path, current_parameters, parameters_of_found, directory_parameters, fields_of_directory, file_parameters, aid_of, last_id, has_path}
 use Rattle.card_model.specs.Select.{ids_of}
 use Rattle.card_effects.specs.Effect.{acted, Keeps, selecting, Effect, quiet, refuses_select, reads_record, reads_binary, gets, selects, updates_record, updates_binary, opens, closes, hands_over, acts, IsQuiet}
 use Rattle.card_effects.specs.Basic.{LeavesBasic, SelectsBasic, HasCurrent}
@@ -25,7 +25,7 @@ use Rattle.card_effects.proofs.Same.{same_bytes_is}
 use Rattle.link.specs.Commands.{is_basic_select, is_path_select, is_reading_select, named_path}
 use Rattle.loader.specs.Values.{ReadingValue, is_readable}
 use Rattle.loader.specs.Reading.{begun_by}
-use Rattle.rules.specs.Agreement.{IsSelected, SameButLe, BasicWaits, Stands, itself, again, waits, ReadingTrue}
+use Rattle.rules.specs.Agreement.{IsSelected, SameButLe, BasicWaits, Stands, itself, again, waits, is_application, HasReading}
 use Rattle.rules.proofs.Selected.{now_current}
 use Rattle.rules.proofs.Chains.{parameters_same, same_self, both_basic, is_on_basic}
 
@@ -44,7 +44,7 @@ pub record DirectoryTrue (card : CardState) (g : ReadingValue) : Type 0 where
 
 abbrev pub GoesTrue : CardState → Option ReadingValue → Type 0
 GoesTrue card None = Unit {0}
-GoesTrue card (Some g) = ReadingTrue card g ⊎ DirectoryTrue card g
+GoesTrue card (Some g) = is_application g.path ≡ false → (HasReading card g ⊎ DirectoryTrue card g)
 
 passes_or : {X : Type 0} (p : X → Bool) (y x : X) (rest : Option X) → (rest ≡ Some x → p x ≡ true) → (b : Bool) → p y ≡ b → (if b then Some y else rest) ≡ Some x → p x ≡ true
 passes_or p y x rest next true e q = let same : y ≡ x = cc in subst (λ z. p z ≡ true) same e
@@ -59,30 +59,14 @@ found_path path card file e = same_bytes_is file.path path (find_passes (has_pat
 
 -- ---- a file that a channel sees is one that the card has
 
-opened : (apart seen : Bool) (at : Option FileState) → (apart ≡ false → seen ≡ true) → (apart ≡ true → at ≡ None) → (if seen then at else None) ≡ at
-opened apart true at v h = refl
-opened true false at v h = sym (h refl)
-opened false false at v h = absurd (false≢true (v refl))
+seen_by : (inside : Bool) (usim app : Option ℕ) (at : Option FileState) → (if inside then is_some app && same_number app usim else true) ≡ true → (if inside && is_none usim then None else at) ≡ at
+seen_by false usim app at v = refl
+seen_by true (Some n) app at v = refl
+seen_by true None None at v = absurd (cc)
+seen_by true None (Some m) at v = absurd (cc)
 
-seen_by : (apart inside : Bool) (usim app : Option ℕ) (at : Option FileState) → (apart ≡ false → (if inside then is_some app && same_number app usim else true) ≡ true) → (apart ≡ true → at ≡ None) → (if inside && is_none usim then None else at) ≡ at
-seen_by apart false usim app at v h = refl
-seen_by apart true (Some n) app at v h = refl
-seen_by true true None app at v h = sym (h refl)
-seen_by false true None None at v h = absurd (false≢true (v refl))
-seen_by false true None (Some m) at v h = absurd (false≢true (v refl))
-
-application_free : (card : CardState) (path : List ℕ) → FineCard card → same_bytes path (application_id ∷ []) ≡ true → (o : Option FileState) → file_at path card ≡ o → o ≡ None
-application_free card path fine h None e = refl
-application_free card path fine h (Some file) e = absurd (none_there e)
-  where
-    none_there : file_at path card ≡ Some file → ⊥
-    none_there e = let f = fine.files path file e in let n : file.path ≡ path = found_path path card file e in let a : same_bytes file.path (application_id ∷ []) ≡ true = rw n h in false≢true (sym f.apart ∙ a)
-
-pub sees : (card : CardState) (channel : ChannelState) (path : List ℕ) → FineCard card → (same_bytes path (application_id ∷ []) ≡ false → is_visible card channel path ≡ true) → file_of path card ≡ file_at path card
-sees card channel path fine v = seen_by (same_bytes path (application_id ∷ [])) (is_in_application path) (usim_of card) channel.app (file_at path card) v (λ h. application_free card path fine h (file_at path card) refl)
-
-pub sees_here : (card : CardState) (channel : ChannelState) (path : List ℕ) → FineCard card → (same_bytes path (application_id ∷ []) ≡ false → is_visible card channel path ≡ true) → file_seen card channel path ≡ file_at path card
-sees_here card channel path fine v = opened (same_bytes path (application_id ∷ [])) (is_visible card channel path) (file_at path card) v (λ h. application_free card path fine h (file_at path card) refl)
+pub sees : (card : CardState) (channel : ChannelState) (path : List ℕ) → is_visible card channel path ≡ true → file_of path card ≡ file_at path card
+sees card channel path v = seen_by (is_in_application path) (usim_of card) channel.app (file_at path card) v
 
 -- ---- what SELECT gives
 
@@ -93,8 +77,8 @@ pub record Gave (card : CardState) (path body : List ℕ) : Type 0 where
   pub visible : same_bytes path (application_id ∷ []) ≡ false → is_visible card channel path ≡ true
   pub body_is : body ≡ current_parameters card channel
 
-pub file_there : (card : CardState) (channel : ChannelState) (path : List ℕ) → FineCard card → channel.current ≡ Some path → (same_bytes path (application_id ∷ []) ≡ false → is_visible card channel path ≡ true) → current_file card channel ≡ file_at path card
-file_there card channel path fine e v = rw e (sees_here card channel path fine v)
+pub file_there : (card : CardState) (channel : ChannelState) (path : List ℕ) → channel.current ≡ Some path → is_visible card channel path ≡ true → current_file card channel ≡ file_at path card
+file_there card channel path e v = rw (e, v) refl
 
 directory_fcp : (card : CardState) (channel : ChannelState) (control : Fcp) → read_fcp (directory_parameters card channel) ≡ Ok control → (control.kind ≡ Directory) × (control.arr ≡ None)
 directory_fcp card channel control = cond_both (same_bytes (current_path channel) (application_id ∷ [])) (write_fcp (fields_of_directory None) (aid_of card channel)) (write_fcp (fields_of_directory (Some (last_id (current_path channel)))) []) (λ bytes. read_fcp bytes ≡ Ok control → (control.kind ≡ Directory) × (control.arr ≡ None))
@@ -109,15 +93,15 @@ directory_fcp card channel control = cond_both (same_bytes (current_path channel
 
 module _ (card : CardState) (fine : FineCard card) (path body : List ℕ) (first_event : ℕ) (gave : Gave card path body) where
   begun_file : (control : Fcp) → read_fcp body ≡ Ok control → (o : Option FileState) → file_at path card ≡ o → GoesTrue card (Some (record { path = path; control = control; rows = []; first_event = first_event }))
-  begun_file control h None e =
-      let here : current_file card gave.channel ≡ None = file_there card gave.channel path fine gave.current gave.visible ∙ e in
+  begun_file control h None e n =
+      let here : current_file card gave.channel ≡ None = file_there card gave.channel path gave.current (gave.visible n) ∙ e in
       let bytes : body ≡ directory_parameters card gave.channel = gave.body_is ∙ ap (parameters_of_found card gave.channel) here in
       let d = directory_fcp card gave.channel control (ap read_fcp (sym bytes) ∙ h) in
-      inr (record { at = e; seen = sees card gave.channel path fine gave.visible; kind = d.0; arr = d.1 })
-  begun_file control h (Some file) e =
-      let here : current_file card gave.channel ≡ Some file = file_there card gave.channel path fine gave.current gave.visible ∙ e in
+      inr (record { at = e; seen = sees card gave.channel path (gave.visible n); kind = d.0; arr = d.1 })
+  begun_file control h (Some file) e n =
+      let here : current_file card gave.channel ≡ Some file = file_there card gave.channel path gave.current (gave.visible n) ∙ e in
       let bytes : body ≡ file_parameters file = gave.body_is ∙ ap (parameters_of_found card gave.channel) here in
-      inl (record { file = file; at = e; seen = sees card gave.channel path fine gave.visible; control = fcp_of_file file control (fine.files path file e) (ap read_fcp (sym bytes) ∙ h); rows = no_rows file.rows })
+      inl (record { file = file; at = e; seen = sees card gave.channel path (gave.visible n); control = fcp_of_file file control (fine.files path file e) (ap read_fcp (sym bytes) ∙ h); rows = no_rows file.rows })
 
   begun_readable : (control : Fcp) → read_fcp body ≡ Ok control → (b : Bool) → GoesTrue card (if b then Some (record { path = path; control = control; rows = []; first_event = first_event }) else None)
   begun_readable control h true = begun_file control h (file_at path card) refl

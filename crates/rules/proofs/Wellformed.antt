@@ -6,7 +6,7 @@ use Rattle.std.proofs.lemmas.Bool.{and_parts, and_from, eqb-true, leb-true, not-
 use Rattle.std.proofs.lemmas.List.{length-map}
 use Rattle.std.proofs.lemmas.List.Folds.{list_all-map}
 use Rattle.std.proofs.lemmas.List.Elements.{All-nil, All-cons}
-use Rattle.apdu.specs.Words.{same_bytes, has_value, is_between, is_one_of, path_is_in}
+use Rattle.apdu.specs.Words.{has_value, is_between, is_one_of, path_is_in}
 use Rattle.fcp.specs.Content.{HasWidth, IsContent}
 use Rattle.fcp.specs.Control.{read_fcp, Describes}
 use Rattle.refresh_cmd.specs.Proactive.{is_good_path, is_below_master, master_file}
@@ -14,12 +14,11 @@ use Rattle.refresh_cmd.proofs.ReadBack.{reads_back}
 use Rattle.card_model.specs.declared.world.FileState.{FileState}
 use Rattle.card_model.specs.declared.world.Change.{Change}
 use Rattle.card_model.specs.declared.world.CardState.{CardState}
-use Rattle.card_model.specs.Card.{application_id, has_path, content_size, fields_of_file}
+use Rattle.card_model.specs.Card.{has_path, content_size, fields_of_file}
 use Rattle.card_effects.specs.Fine.{FineFile, FineFiles, AllFine}
 use Rattle.script_reader.specs.declared.types.KindSpec.{KindSpec}
 use Rattle.script_reader.specs.declared.types.KindSpec.TheVariants.{Transparent, Linear}
 use Rattle.script_reader.specs.declared.types.FileSpec.{FileSpec}
-use Rattle.script_reader.specs.declared.types.CardSpec.{CardSpec}
 use Rattle.script_reader.specs.declared.types.ChangeSpec.{ChangeSpec}
 use Rattle.script_reader.specs.declared.types.Script.{Script}
 use Rattle.script_reader.specs.Files.{is_kind_within, is_template_within, is_file_within, is_path, has_rows, is_template, has_shape, have_shape, are_files_within, are_placed}
@@ -28,7 +27,7 @@ use Rattle.script_reader.specs.Rules.{cards_keep_rules, changes_keep_rules, acto
 use Rattle.script_reader.specs.World.{content_of, is_file, file_of, card_of, change_of}
 use Rattle.script_reader.proofs.Fits.{card_files, change_files}
 use Rattle.rules.specs.State.{first_world}
-use Rattle.rules.specs.Agreement.{is_apart, are_apart, has_files_apart, FineChange, Sane}
+use Rattle.rules.proofs.Sane.{FineChange, Sane}
 
 -- ---- a file
 
@@ -58,26 +57,24 @@ describes file (Linear len rows) e w =
 no_template : (o : Option (List ℕ)) → not (has_value is_template o) ≡ true → (bytes : List ℕ) → o ≡ Some bytes → is_ok (read_fcp bytes) ≡ false
 no_template o h bytes e = not-true (is_ok (read_fcp bytes)) (ap (λ (x : Option (List ℕ)). not (has_value is_template x)) (sym e) ∙ h)
 
-pub fine_file : (file : FileSpec) → is_file file ≡ true → is_apart file ≡ true → FineFile (file_of file)
-fine_file file h a =
+pub fine_file : (file : FileSpec) → is_file file ≡ true → FineFile (file_of file)
+fine_file file h =
     let q = and_parts (is_file_within file) (has_shape file) h in
     let w = (and_parts (is_kind_within file.kind) (is_template_within file.fcp) q.0).0 in
     let s = and_parts (has_rows file.kind) (not (has_value is_template file.fcp)) q.1 in
     let c = content_fine file.kind w s.0 in
     record {
-      apart = not-true (same_bytes file.path (application_id ∷ [])) a;
       template = no_template file.fcp s.1;
       rows = c.0;
       describes = describes file file.kind refl w;
       size = c.1;
     }
 
-all_fine : (files : List FileSpec) → list_all is_file files ≡ true → are_apart files ≡ true → AllFine (map file_of files)
-all_fine [] h a = tt
-all_fine (file ∷ files) h a =
+all_fine : (files : List FileSpec) → list_all is_file files ≡ true → AllFine (map file_of files)
+all_fine [] h = tt
+all_fine (file ∷ files) h =
     let q = and_parts (is_file file) (list_all is_file files) h in
-    let p = and_parts (is_apart file) (list_all is_apart files) a in
-    (fine_file file q.0 p.0, all_fine files q.1 p.1)
+    (fine_file file q.0, all_fine files q.1)
 
 found_by : (x file : FileState) (rest : Option FileState) → FineFile x → (rest ≡ Some file → FineFile file) → (b : Bool) → (if b then Some x else rest) ≡ Some file → FineFile file
 found_by x file rest f next true e = let same : x ≡ file = cc in subst FineFile same f
@@ -124,21 +121,8 @@ mapped test f P each [] h i y e = absurd (cc)
 mapped test f P each (x ∷ xs) h zero y e = let same : f x ≡ y = cc in subst P same (each x (and_parts (test x) (list_all test xs) h).0)
 mapped test f P each (x ∷ xs) h (suc i) y e = mapped test f P each xs (and_parts (test x) (list_all test xs) h).1 i y e
 
-both_pass : {A : Type 0} (p q : A → Bool) (xs : List A) → list_all p xs ≡ true → list_all q xs ≡ true → list_all (λ (x : A). p x && q x) xs ≡ true
-both_pass p q [] h g = refl
-both_pass p q (x ∷ xs) h g =
-    let a = and_parts (p x) (list_all p xs) h in
-    let b = and_parts (q x) (list_all q xs) g in
-    and_from (p x && q x) (list_all (λ x. p x && q x) xs) (and_from (p x) (q x) a.0 b.0) (both_pass p q xs a.1 b.1)
-
-abbrev card_apart : CardSpec → Bool
-card_apart card = are_apart card.files
-
-abbrev change_apart : ChangeSpec → Bool
-change_apart change = are_apart change.files
-
-pub sane_script : (s : Script) → keeps_rules s ≡ true → has_files_apart s ≡ true → Sane (first_world s)
-sane_script s h apart =
+pub sane_script : (s : Script) → keeps_rules s ≡ true → Sane (first_world s)
+sane_script s h =
     let version = s.version == 1 in
     let cards = cards_keep_rules s.cards in
     let changes = changes_keep_rules s.changes in
@@ -153,9 +137,8 @@ sane_script s h apart =
     let q6 = and_parts version cards q5.0 in
     let each_card = (and_parts (is_between 1 4 (length s.cards)) (list_all is_card s.cards) q6.1).1 in
     let each_change = (and_parts (nat_le (length s.changes) 64) (list_all is_change s.changes) q5.1).1 in
-    let a = and_parts (list_all card_apart s.cards) (list_all change_apart s.changes) apart in
     record {
-      cards = λ i card e. mapped (λ (x : CardSpec). is_card x && card_apart x) card_of (λ (c : CardState). FineFiles c.files) (λ x t. let p = and_parts (is_card x) (card_apart x) t in found_fine (map file_of x.files) (all_fine x.files (card_files x p.0) p.1)) s.cards (both_pass is_card card_apart s.cards each_card a.0) i card e;
+      cards = λ i card e. mapped is_card card_of (λ (c : CardState). FineFiles c.files) (λ x t. found_fine (map file_of x.files) (all_fine x.files (card_files x t))) s.cards each_card i card e;
       changes = λ i ch e. mapped is_change change_of FineChange fine_change s.changes each_change i ch e;
-      changed = λ i ch e. mapped (λ (x : ChangeSpec). is_change x && change_apart x) change_of (λ (c : Change). AllFine c.files) (λ x t. let p = and_parts (is_change x) (change_apart x) t in all_fine x.files (change_files x p.0) p.1) s.changes (both_pass is_change change_apart s.changes each_change a.1) i ch e;
+      changed = λ i ch e. mapped is_change change_of (λ (c : Change). AllFine c.files) (λ x t. all_fine x.files (change_files x t)) s.changes each_change i ch e;
     }

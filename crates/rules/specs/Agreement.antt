@@ -1,29 +1,23 @@
 -- What is kept agrees with the card in the slot: its selection, the exchanges of a command, current files and readings.
-use Rattle.std.specs.Prelude.{◌≡◌, ◌⊎◌, ◌==◌, ◌&&◌, ◌||◌, not, ℕ, Bool, true, List, [], ◌∷◌, length, nat_lt, slice_get, Option, Some, None, option_and_then, Ok}
-use Rattle.std.specs.List.{list_all}
+use Rattle.std.specs.Prelude.{◌≡◌, ◌⊎◌, ◌==◌, ◌&&◌, ◌||◌, ℕ, Bool, true, false, List, [], ◌∷◌, Option, Some, None, option_and_then, is_some, Ok, Err}
 use Rattle.apdu.specs.Values.{CommandValue}
-use Rattle.apdu.specs.Words.{same_bytes, is_one_of, path_is_in}
+use Rattle.apdu.specs.Words.{same_bytes}
 use Rattle.apdu.specs.Apdu.{select_ins, get_response_ins, read_binary_ins}
 use Rattle.fcp.specs.declared.control.ArrRef.{ArrRef}
 use Rattle.card_model.specs.declared.world.FileState.{FileState}
-use Rattle.card_model.specs.declared.world.Change.{Change}
 use Rattle.card_model.specs.declared.world.ChannelState.{ChannelState}
 use Rattle.card_model.specs.declared.world.CardState.{CardState}
 use Rattle.card_model.specs.declared.world.World.{World}
-use Rattle.card_model.specs.Card.{application_id, usim_of, file_at, file_of, rows_of, fields_of_file, current_parameters, change_command}
-use Rattle.refresh_cmd.specs.Proactive.{read_proactive, refresh_type, command_of}
+use Rattle.card_model.specs.Card.{application_id, usim_of, file_at, file_of, rows_of, fields_of_file, current_parameters}
 use Rattle.card_model.specs.Step.{card_inside}
 use Rattle.card_effects.specs.Effect.{basic, IsMisfit}
 use Rattle.card_effects.specs.Basic.{HasCurrent}
-use Rattle.card_effects.specs.Fine.{FineFiles, FineImages}
 use Rattle.card_effects.specs.Rows.{RowsTrue}
-use Rattle.script_reader.specs.declared.types.FileSpec.{FileSpec}
-use Rattle.script_reader.specs.declared.types.CardSpec.{CardSpec}
-use Rattle.script_reader.specs.declared.types.ChangeSpec.{ChangeSpec}
 use Rattle.script_reader.specs.declared.types.Script.{Script}
 use Rattle.report.specs.declared.line.Line.{Line}
 use Rattle.report.specs.declared.line.Line.TheVariants as line
 use Rattle.adn.specs.declared.edit.Edit.{Edit}
+use Rattle.adn.specs.declared.edit.PlanError.{PlanError}
 use Rattle.families.specs.Families.{family_path, family_plan}
 use Rattle.link.specs.declared.chain.Chain.{Chain}
 use Rattle.link.specs.Commands.{is_basic_select, named_path}
@@ -31,6 +25,9 @@ use Rattle.epoch_cache.specs.declared.cached.CachedFile.{CachedFile}
 use Rattle.loader.specs.Values.{ReadingValue}
 use Rattle.rules.specs.declared.kept.Job.{Job}
 use Rattle.rules.specs.declared.kept.Kept.{Kept}
+use Rattle.rules.specs.declared.kept.Decision.{Decision}
+use Rattle.rules.specs.declared.kept.Work.{Work}
+use Rattle.rules.specs.declared.kept.Work.TheVariants.{Rests as rests, Refuses as refuses, Lacks as lacks, Sends as sends, Reads as reads, Writes as writes, Resets as resets, Happens as happens}
 use Rattle.editor.specs.declared.editing.Attempt.{Attempt}
 use Rattle.editor.specs.Editing.{update_need, card_need}
 use Rattle.rules.specs.Kept.{operation_at, operation_now}
@@ -44,43 +41,6 @@ use Rattle.rules.specs.Rules.{has_right_response}
 abbrev pub are_responses_right : Script → List Line → Bool
 are_responses_right s [] = true
 are_responses_right s (l ∷ earlier) = are_responses_right s earlier && has_right_response (world_of s earlier) l
-
--- ---- what is asked of a script, beside that it keeps its rules
-
--- the file does not stand at the directory of the application
-abbrev pub is_apart : FileSpec → Bool
-is_apart file = not (same_bytes file.path (application_id ∷ []))
-
-abbrev pub are_apart : List FileSpec → Bool
-are_apart files = list_all is_apart files
-
--- nor does any file of its cards and changes
-abbrev pub has_files_apart : Script → Bool
-has_files_apart s = list_all (λ (card : CardSpec). are_apart card.files) s.cards && list_all (λ (change : ChangeSpec). are_apart change.files) s.changes
-
--- ---- what that comes to: of a change
-
-abbrev pub tells_files : Change → Bool
-tells_files ch = is_one_of ch.qualifier (0 ∷ 4 ∷ 5 ∷ 6 ∷ []) || (nat_lt ch.qualifier 7 && list_all (λ (f : FileState). path_is_in ch.list f.path) ch.files)
-
-pub record FineChange (ch : Change) : Type 0 where
-  -- the terminal reads the command as it is
-  pub reads : read_proactive (change_command ch) ≡ Ok (command_of 1 ch.kind ch.qualifier ch.list)
-  -- it is a REFRESH that tells each file that it changes, or changes none
-  pub honest : ((length ch.files == 0) || ((ch.kind == refresh_type) && tells_files ch)) ≡ true
-
-abbrev pub FineChanges : List Change → Type 0
-FineChanges changes = (i : ℕ) (ch : Change) → slice_get changes i ≡ Some ch → FineChange ch
-
--- ---- and of the world that it begins with
-
-abbrev pub FineCards : List CardState → Type 0
-FineCards cards = (i : ℕ) (card : CardState) → slice_get cards i ≡ Some card → FineFiles card.files
-
-pub record Sane (w : World) : Type 0 where
-  pub cards : FineCards w.cards
-  pub changes : FineChanges w.changes
-  pub changed : FineImages w.changes
 
 -- ---- the selection
 
@@ -135,13 +95,20 @@ ChainTied card selected (Some chain) = Stands card selected chain.first chain.ne
 
 -- ---- current files
 
+-- the directory of the application, where one channel may see a file and another none; no family has it
+abbrev pub is_application : List ℕ → Bool
+is_application path = same_bytes path (application_id ∷ [])
+
 abbrev pub arr_at : List ℕ → CardState → Option ArrRef
 arr_at path card = option_and_then (λ (f : FileState). f.arr) (file_of path card)
 
 -- a current file has the card's rows, and the reference to its rule
-pub record FileTrue (card : CardState) (file : CachedFile) : Type 0 where
+pub record HasFile (card : CardState) (file : CachedFile) : Type 0 where
   pub content : file.content ≡ rows_of file.path card
   pub arr : file.arr ≡ arr_at file.path card
+
+abbrev pub FileTrue : CardState → CachedFile → Type 0
+FileTrue card file = is_application file.path ≡ false → HasFile card file
 
 abbrev pub FilesTrue : CardState → List CachedFile → Type 0
 FilesTrue card [] = Unit {0}
@@ -150,12 +117,15 @@ FilesTrue card (file ∷ files) = FileTrue card file × FilesTrue card files
 -- ---- readings
 
 -- a reading has the control parameters of the card's file, and its rows begin the file's
-pub record ReadingTrue (card : CardState) (g : ReadingValue) : Type 0 where
+pub record HasReading (card : CardState) (g : ReadingValue) : Type 0 where
   pub file : FileState
   pub at : file_at g.path card ≡ Some file
   pub seen : file_of g.path card ≡ file_at g.path card
   pub control : g.control ≡ fields_of_file file
   pub rows : RowsTrue file.rows g.rows
+
+abbrev pub ReadingTrue : CardState → ReadingValue → Type 0
+ReadingTrue card g = is_application g.path ≡ false → HasReading card g
 
 abbrev pub ReadingsTrue : CardState → List ReadingValue → Type 0
 ReadingsTrue card [] = Unit {0}
@@ -186,8 +156,23 @@ edit_at s (line.Turn a) k = edit_of (operation_now s a k.jobs)
 edit_at s (line.Begin a i) k = edit_of (operation_at s a i)
 edit_at s l k = None
 
--- an attempt that begins here has the plan for the card, and what its updates ask for is what the card asks for
-pub record IsPlanned (card : CardState) (k : Kept) (f : ℕ) (e : Edit) (a : Attempt) : Type 0 where
-  pub plan : family_plan f e (λ path. rows_of path card) ≡ Ok a.plan
+-- it rests on a plan
+abbrev pub is_work_planned : Work → Bool
+is_work_planned (refuses refusal) = true
+is_work_planned (lacks key) = true
+is_work_planned rests = false
+is_work_planned (sends c) = false
+is_work_planned (reads path) = false
+is_work_planned writes = false
+is_work_planned resets = false
+is_work_planned (happens event) = false
+
+abbrev pub is_planned : Decision → Bool
+is_planned d = is_some d.attempt || is_work_planned d.work
+
+-- what is decided here has the plan for the card, or its refusal, and what its updates ask for is what the card asks for
+pub record IsPlanned (card : CardState) (k : Kept) (f : ℕ) (e : Edit) (d : Decision) : Type 0 where
+  pub plan : (a : Attempt) → d.attempt ≡ Some a → family_plan f e (λ path. rows_of path card) ≡ Ok a.plan
+  pub refusal : (r : PlanError) → d.work ≡ refuses r → family_plan f e (λ path. rows_of path card) ≡ Err r
   pub main_need : update_need k.files (family_path f 0) ≡ card_need card (family_path f 0)
   pub extension_need : update_need k.files (family_path f 1) ≡ card_need card (family_path f 1)

@@ -44,7 +44,8 @@ pub fn due_is_shown()
     ensures { ShowsCard }
 {}
 
-/// An attempt of an edit begins with the plan for the card in the slot, and by the keys that its files ask for.
-pub fn attempt_is_planned_for_card()
+/// What an edit decides by a plan, it decides by the plan for the card in the slot, and by the keys that the card's
+/// files ask for: an attempt, the refusal of the plan, or the want of a key.
+pub fn edit_is_planned_for_card()
     ensures { PlansForCard }
 {}

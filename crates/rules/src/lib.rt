@@ -22,8 +22,7 @@ pub use judging::{
 };
 pub use kept::{Begun, Decision, Facts, Job, Jobs, Kept, Outcome, Stage, Turn, Work};
 pub use laws::{
-    attempt_is_planned_for_card, due_is_shown, due_publication_is_true, kept_agrees,
-    kept_looks_back, legal_lines_are_answered_right, legal_or_broken, selection_is_tracked,
-    updates_follow_the_plan,
+    due_is_shown, due_publication_is_true, edit_is_planned_for_card, kept_agrees, kept_looks_back,
+    legal_lines_are_answered_right, legal_or_broken, selection_is_tracked, updates_follow_the_plan,
 };
 pub use standing::Standing;
