@@ -1,5 +1,5 @@
 -- What contracts see of lines with room, and how many bytes of its own a line takes at most.
-use Rattle.std.specs.Prelude.{ℕ, List, length}
+use Rattle.std.specs.Prelude.{ℕ, ◌+◌, List, length}
 use Rattle.report.specs.declared.answer.Answer.{Answer}
 use Rattle.report.specs.declared.answer.Answer.TheVariants as answer
 use Rattle.report.specs.declared.line.Line.{Line}
@@ -11,24 +11,26 @@ pub record LinesRoom : Type 0 where
   pub spare : ℕ
   pub spare_bytes : ℕ
 
--- rows left marked, a response, nine bytes for each of eight families, eight for each of 64 numbers; else none
-abbrev pub most_of_answer : Answer → ℕ
-most_of_answer (answer.Done n k left) = length left
-most_of_answer (answer.Raw r) = 258
-most_of_answer (answer.Look seen) = 72
-most_of_answer (answer.Notices dropped numbers) = 512
-most_of_answer given = 0
+-- ---- Room that is enough for a line, whatever is kept of it: 32 bytes, and what may be long
 
--- a command takes at most 261 bytes and a response 258; a text takes its own
+-- the rows left marked, a response (258 bytes at most), what eight families show, 64 numbers
+abbrev pub most_of_answer : Answer → ℕ
+most_of_answer (answer.Done n k left) = 32 + length left
+most_of_answer (answer.Raw r) = 290
+most_of_answer (answer.Look seen) = 104
+most_of_answer (answer.Notices dropped numbers) = 544
+most_of_answer given = 32
+
+-- a command (261 bytes at most) and a response, a text
 abbrev pub most_kept : Line → ℕ
-most_kept (line.Exchange a c r) = 519
-most_kept (line.Failed a c acted) = 261
-most_kept (line.Published k f e n text) = length text
+most_kept (line.Exchange a c r) = 551
+most_kept (line.Failed a c acted) = 293
+most_kept (line.Published k f e n text) = 32 + length text
 most_kept (line.Answered a i given) = most_of_answer given
-most_kept (line.Turn a) = 0
-most_kept (line.Begin a i) = 0
-most_kept (line.Reset a) = 0
-most_kept (line.ResetFailed a) = 0
-most_kept (line.World a e) = 0
-most_kept (line.EpochEnd k e n) = 0
-most_kept (line.Refused f n) = 0
+most_kept (line.Turn a) = 32
+most_kept (line.Begin a i) = 32
+most_kept (line.Reset a) = 32
+most_kept (line.ResetFailed a) = 32
+most_kept (line.World a e) = 32
+most_kept (line.EpochEnd k e n) = 32
+most_kept (line.Refused f n) = 32

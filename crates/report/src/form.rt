@@ -277,8 +277,10 @@ fn keep_exchange(
     bytes: &mut Reserved<u8>,
 ) -> Form
     requires { length (command_bytes command.now ++ response_bytes response.now) ≤ bytes.old.spare }
-    ensures bytes { bytes.new.items ≡ bytes.old.items ++ command_bytes command.now ++ response_bytes response.now }
-    ensures spare { bytes.old.spare ≤ bytes.new.spare + length (command_bytes command.now ++ response_bytes response.now) }
+    ensures bytes { bytes.new.items ≡
+        bytes.old.items ++ command_bytes command.now ++ response_bytes response.now }
+    ensures spare { bytes.old.spare ≤
+        bytes.new.spare + length (command_bytes command.now ++ response_bytes response.now) }
     ensures back { spec.line_of result (command_bytes command.now ++ response_bytes response.now)
         ≡ Some (Line.Exchange actor command.now response.now) }
 {
@@ -296,7 +298,8 @@ fn keep_failed(actor: u8, command: &Command, acted: bool, bytes: &mut Reserved<u
     requires { length (command_bytes command.now) ≤ bytes.old.spare }
     ensures bytes { bytes.new.items ≡ bytes.old.items ++ command_bytes command.now }
     ensures spare { bytes.old.spare ≤ bytes.new.spare + length (command_bytes command.now) }
-    ensures back { spec.line_of result (command_bytes command.now) ≡ Some (Line.Failed actor command.now acted) }
+    ensures back { spec.line_of result (command_bytes command.now)
+        ≡ Some (Line.Failed actor command.now acted) }
 {
     bytes.extend_within(command.write().as_slice());
     Form::Failed { actor, acted }
@@ -316,7 +319,8 @@ fn keep_response(response: &Response, bytes: &mut Reserved<u8>) -> AnswerForm
     requires { length (response_bytes response.now) ≤ bytes.old.spare }
     ensures bytes { bytes.new.items ≡ bytes.old.items ++ response_bytes response.now }
     ensures spare { bytes.old.spare ≤ bytes.new.spare + length (response_bytes response.now) }
-    ensures back { spec.answer_of result (response_bytes response.now) ≡ Some (Answer.Raw response.now) }
+    ensures back { spec.answer_of result (response_bytes response.now)
+        ≡ Some (Answer.Raw response.now) }
 {
     bytes.extend_within(response.write().as_slice());
     AnswerForm::Raw
@@ -493,7 +497,8 @@ fn answered_of(
     form: AnswerForm,
     bytes: &[u8],
 ) -> Result<Option<Line>, Memory>
-    ensures { IfOk result (λ line. line ≡ spec.answered_of actor op (spec.answer_of form bytes.now)) }
+    ensures { IfOk result
+        (λ line. line ≡ spec.answered_of actor op (spec.answer_of form bytes.now)) }
 {
     let Some(answer) = answer_of(alloc, form, bytes)? else {
         return Ok(None);

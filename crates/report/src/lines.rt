@@ -90,7 +90,7 @@ impl ReservedLines {
         self.entries.push_within(Entry { at, len, form });
     }
 
-    /// Puts a line behind the others, within the room.
+    /// Puts a line behind the others, within the room, which cannot fail.
     pub fn push_within(&mut self, line: &Line)
         requires spare { 0 < self.old.spare }
         requires spare_bytes { most_kept line.now ≤ self.old.spare_bytes }

@@ -121,7 +121,7 @@ fn push_exchange(
         command: command(alloc, sent)?,
         response: response(alloc, answered)?,
     };
-    lines.reserve(1, 519)?;
+    lines.reserve(1, 551)?;
     lines.push_within(&line);
     Ok(())
 }

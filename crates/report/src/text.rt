@@ -364,7 +364,8 @@ fn put_epoch_end(
 }
 
 fn put_refused(alloc: Global, out: &mut String, family: u8, event: u64) -> Result<(), Memory>
-    ensures { OnOk result (spec.Puts out.old out.new (spec.line_words (Line.Refused family event))) }
+    ensures { OnOk result (spec.Puts out.old out.new
+        (spec.line_words (Line.Refused family event))) }
 {
     put(out, "d")?;
     put_family(out, family)?;
