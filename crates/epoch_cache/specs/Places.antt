@@ -3,7 +3,7 @@
 -- A path gets a place where it is tracked or a file of it is put. What was done to the file of a path raises the version of its place.
 use Rattle.std.specs.Prelude.{◌≡◌, ℕ, ◌+◌, Bool, true, false, if◌then◌else◌, max, List, [], ◌∷◌, ◌++◌, map, filter, find, not, ◌||◌, Option, None, Some, option_map, option_and_then}
 use Rattle.std.specs.List.{list_any}
-use Rattle.apdu.specs.Words.{same_bytes, path_is_in, has_value, is_one_of}
+use Rattle.apdu.specs.Words.{same_bytes, path_is_in, is_one_of}
 use Rattle.fcp.specs.Content.{Content}
 use Rattle.fcp.specs.declared.control.ArrRef.{ArrRef}
 use Rattle.epoch_cache.specs.declared.cached.CachedFile.{CachedFile}
@@ -11,7 +11,7 @@ use Rattle.epoch_cache.specs.declared.cached.Touch.{Touch}
 use Rattle.epoch_cache.specs.declared.cached.Written.{Written}
 use Rattle.epoch_cache.specs.declared.cached.Written.TheVariants as written
 use Rattle.refresh_cmd.specs.Values.{ProactiveValue}
-use Rattle.epoch_cache.specs.Cache.{taken, asks_reset, is_raw_write}
+use Rattle.epoch_cache.specs.Cache.{taken, asks_reset, is_moved_by, is_raw_write}
 
 pub record Place : Type 0 where
   pub path : List ℕ
@@ -72,6 +72,9 @@ KeepsOthers path old new = (other : List ℕ) → same_bytes path other ≡ fals
 abbrev pub without_listed : List (List ℕ) → List CachedFile → List CachedFile
 without_listed paths files = filter (λ (file : CachedFile). not (path_is_in paths file.path)) files
 
+abbrev pub without_refreshed : ProactiveValue → List CachedFile → List CachedFile
+without_refreshed p files = filter (λ (file : CachedFile). not (is_moved_by file.path p)) files
+
 -- the version of each path of the list is raised, as often as it stands there
 abbrev pub raised_in_turn : List (List ℕ) → List Place → List Place
 raised_in_turn [] places = places
@@ -83,19 +86,26 @@ raised_in_turn (path ∷ paths) places = raised_in_turn paths (raised_at path pl
 abbrev pub renews_every : ProactiveValue → Bool
 renews_every p = asks_reset p || is_one_of p.qualifier (0 ∷ 3 ∷ [])
 
--- the paths that a REFRESH lists
-abbrev pub moved_paths : Option ProactiveValue → List (List ℕ)
-moved_paths None = []
-moved_paths (Some p) = if is_one_of p.qualifier (1 ∷ 2 ∷ []) then p.list else []
+-- the files of its list are named
+abbrev pub names_listed : ProactiveValue → Bool
+names_listed p = is_one_of p.qualifier (1 ∷ 2 ∷ [])
 
--- every path moves
+abbrev pub refreshed_places : ProactiveValue → List Place → List Place
+refreshed_places p places =
+    if renews_every p then all_raised places
+    else if names_listed p then raised_in_turn p.list places
+    else places
+
+abbrev pub refreshed_by : Option ProactiveValue → List Place → List Place
+refreshed_by None places = places
+refreshed_by (Some p) places = refreshed_places p places
+
+-- every path moves, whatever was handed over
 abbrev pub moves_every : Touch → Bool
-moves_every t = t.begins || is_raw_write t.written || has_value renews_every t.refresh
+moves_every t = t.begins || is_raw_write t.written
 
 abbrev pub moved_places : Touch → List Place → List Place
-moved_places t places =
-    if moves_every t then all_raised places
-    else raised_in_turn (moved_paths t.refresh) places
+moved_places t places = if moves_every t then all_raised places else refreshed_by t.refresh places
 
 abbrev pub patched_places : Option (List ℕ) → List Place → List Place
 patched_places None places = places

@@ -1,4 +1,4 @@
-use Rattle.std.proofs.Common.{◌≡◌, ◌+◌, ◌∷◌, [], ◌∙◌, ap, sym, arith, drop}
+use Rattle.std.proofs.Common.{◌+◌, ◌∙◌, ap, sym, arith, drop}
 use Rattle.std.proofs.lemmas.List.{drop_all}
 use Rattle.epoch_cache.specs.Places.{without_listed, raised_in_turn}
 use Rattle.epoch_cache.proofs.Listed.{without_none, without_one_more, rest_from}
@@ -9,10 +9,10 @@ loop-path-preserved c =
     let rest = rest_from c.args.paths.now c.loop-path.path-index c.path-item.result c.loop-path-test.true c.path-item.is in
     record {
       files = ap (without_listed (drop (c.loop-path.path-index + 1) c.args.paths.now)) c.touch.ensures.files
-        ∙ without_one_more c.path-item.result (drop (c.loop-path.path-index + 1) c.args.paths.now) c.loop-path.self.files
-        ∙ ap (λ ps. without_listed ps c.loop-path.self.files) (sym rest) ∙ c.loop-path.invariant.files;
+          ∙ without_one_more c.path-item.result (drop (c.loop-path.path-index + 1) c.args.paths.now) c.loop-path.self.files
+          ∙ ap (λ ps. without_listed ps c.loop-path.self.files) (sym rest) ∙ c.loop-path.invariant.files;
       places = ap (raised_in_turn (drop (c.loop-path.path-index + 1) c.args.paths.now)) c.touch.ensures.places
-        ∙ ap (λ ps. raised_in_turn ps c.loop-path.self.places) (sym rest) ∙ c.loop-path.invariant.places;
+          ∙ ap (λ ps. raised_in_turn ps c.loop-path.self.places) (sym rest) ∙ c.loop-path.invariant.places;
       bound = omega (arith, c.touch.ensures.bound, c.loop-path.invariant.bound);
     }
 

@@ -7,5 +7,5 @@ abbrev pub invariant-loop-path : goal.invariant-loop-path
 invariant-loop-path l = record {
   files : without_listed (drop l.path-index l.paths) l.self.files ≡ without_listed l.paths l.fn.self.files;
   places : raised_in_turn (drop l.path-index l.paths) l.self.places ≡ raised_in_turn l.paths l.fn.self.places;
-  bound : highest_version l.self.places ≤ highest_version l.fn.self.places + l.path-index
+  bound : highest_version l.self.places ≤ highest_version l.fn.self.places + l.path-index;
 }
