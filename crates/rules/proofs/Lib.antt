@@ -11,3 +11,4 @@ mod Looking
 mod CurrentPaths
 mod HandlesAndSessions
 mod SeenBefore
+mod Happening
