@@ -4,7 +4,6 @@
 
 mod due;
 mod edits;
-mod events;
 mod holdings;
 mod judging;
 mod kept;
@@ -13,7 +12,6 @@ mod standing;
 
 pub use due::Due;
 pub use edits::{Attempt, Decided, Editing};
-pub use events::history_keeps_events;
 pub use holdings::{Handle, Handles, Mailbox, Session, Sessions};
 pub use judging::{
     judges_broken_answers, judges_broken_channels, judges_broken_edits, judges_broken_ending,
