@@ -12,3 +12,5 @@ mod CurrentPaths
 mod HandlesAndSessions
 mod SeenBefore
 mod Happening
+mod Attempts
+mod Planned
