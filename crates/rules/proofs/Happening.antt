@@ -1,15 +1,11 @@
 -- The history that the rules keep is that of the events.
-use Rattle.std.proofs.Common.{◌≡◌, ℕ, List, [], ◌∷◌, Option, Some, None, refl, ap, sym, ◌∙◌}
+use Rattle.std.proofs.Common.{◌≡◌, List, [], ◌∷◌, refl, ap, ◌∙◌}
 use Rattle.card_model.specs.declared.world.WorldEvent.TheVariants as world_event
-use Rattle.script_reader.specs.declared.types.Script.{Script}
 use Rattle.report.specs.declared.line.Line.{Line}
 use Rattle.report.specs.declared.line.Line.TheVariants as line
-use Rattle.epoch_cache.specs.declared.event.Event.{Event}
-use Rattle.epoch_cache.specs.declared.past.Past.{Past}
-use Rattle.epoch_cache.specs.Past.{past_of, past_after}
+use Rattle.epoch_cache.specs.Past.{past_of}
 use Rattle.rules.specs.History.{history_after}
-use Rattle.rules.specs.After.{kept_of}
-use Rattle.rules.specs.Events.{event_of, events_of, KeepsEvents}
+use Rattle.rules.specs.Events.{events_of, KeepsEvents}
 
 
 -- a line's event is put in front, where there is one
