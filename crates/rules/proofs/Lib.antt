@@ -9,6 +9,7 @@ mod Looking
 mod CurrentPaths
 mod HandlesAndSessions
 mod SeenBefore
+mod Happening
 mod Attempts
 mod FirstUpdates
 mod Sane

@@ -30,3 +30,4 @@ pub mod WorkedRuns
 pub mod BrokenContents
 pub mod BrokenAnswers
 pub mod BrokenTurns
+pub mod Events

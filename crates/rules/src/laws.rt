@@ -1,4 +1,5 @@
 // Laws of the rules, each the contract of a function that does nothing.
+ghost use Rattle.rules.specs.Events.{KeepsEvents};
 ghost use Rattle.rules.specs.Laws.{AnswersRight, JudgesReports, KeptAgrees, KeptLooksBack, PlansForCard, ShowsCard, TellsTruth, TracksSelection, UpdatesFollowPlan};
 
 /// The first broken line is none exactly where the report is legal.
@@ -48,4 +49,9 @@ pub fn due_is_shown()
 /// files ask for: an attempt, the refusal of the plan, or the want of a key.
 pub fn edit_is_planned_for_card()
     ensures { PlansForCard }
+{}
+
+/// A history of the events that the lines show keeps what is kept of the lines as their history.
+pub fn history_keeps_events()
+    ensures { KeepsEvents }
 {}
