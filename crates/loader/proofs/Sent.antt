@@ -188,12 +188,12 @@ sent (step ∷ steps) path c first l r due is h =
     let chained : behind.chain ≡ o = load-chain path step.command step.outcome l in
     let started : chain_first step.command l.chain ≡ first = ap (λ (d : CommandValue). chain_first d l.chain) e ∙ is in
     let s : Sent path steps first behind r = sent-rest o path steps first behind (answer_of step.command step.outcome) r chained
-        (λ none. subst (λ (f : CommandValue). Left f behind.stage) started (left-by path step.command step.outcome l none))
-        (fault-by path step.command step.outcome l)
-        (λ chain k x. sent steps path chain.next first behind r (due-behind path behind chain (chained ∙ k))
-            (ap (chain_first chain.next) (chained ∙ k) ∙ chain-first-next chain ∙ chain-from step.command step.outcome l.chain chain k ∙ started)
-            (ap (λ (b : Option Chain). exchanged chain.next b steps) (chained ∙ k) ∙ x))
-        (behind-test (same_command step.command c) rest (r, []) h) in
+    (λ none. subst (λ (f : CommandValue). Left f behind.stage) started (left-by path step.command step.outcome l none))
+    (fault-by path step.command step.outcome l)
+    (λ chain k x. sent steps path chain.next first behind r (due-behind path behind chain (chained ∙ k))
+    (ap (chain_first chain.next) (chained ∙ k) ∙ chain-first-next chain ∙ chain-from step.command step.outcome l.chain chain k ∙ started)
+    (ap (λ (b : Option Chain). exchanged chain.next b steps) (chained ∙ k) ∙ x))
+    (behind-test (same_command step.command c) rest (r, []) h) in
     record { due = (due ∙ ap (λ (d : CommandValue). Some d) (sym e), s.due); chain = s.chain; left = s.left; fault = s.fault }
 
 pub sent-fresh : (steps : List Step) (path : List ℕ) (c : CommandValue) (l : Load) (r : Result ResponseValue LinkError) → l.chain ≡ None → load_due path l ≡ Some c → exchanged c None steps ≡ Some (r, []) → Sent path steps c l r

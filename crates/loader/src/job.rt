@@ -155,6 +155,7 @@ impl LoadJob {
             }
         }
     }
+
     fn follow_steps(
         &mut self,
         path: &Path,
@@ -269,7 +270,7 @@ impl LoadJob {
         ensures done { spec.HadMemory result (spec.HasTurned
             (first_missing cache.old.files self.old.paths) self.old.paths
             (spec.load_behind (first_missing cache.old.files self.old.paths) (added trail.old trail.new)
-                (spec.load_begun selection.old cache.old.files self.old.readings events))
+            (spec.load_begun selection.old cache.old.files self.old.readings events))
             cache.new.files self.new.readings result) }
         ensures paths { self.new.paths ≡ self.old.paths }
         ensures bound { highest_version cache.new.places ≡ highest_version cache.old.places }
@@ -301,7 +302,7 @@ impl LoadJob {
         ensures done { spec.HadMemory result (spec.HasTurned
             (first_missing cache.old.files self.old.paths) self.old.paths
             (spec.load_behind (first_missing cache.old.files self.old.paths) (added trail.old trail.new)
-                (spec.load_begun selection.now cache.old.files self.old.readings events))
+            (spec.load_begun selection.now cache.old.files self.old.readings events))
             cache.new.files self.new.readings result) }
         ensures paths { self.new.paths ≡ self.old.paths }
         ensures bound { highest_version cache.new.places ≡ highest_version cache.old.places }
