@@ -28,7 +28,7 @@ use Rattle.loader.specs.declared.stage.Stage.{Stage}
 use Rattle.loader.specs.declared.stage.Stage.TheVariants.{Fresh, Next, Over}
 use Rattle.loader.specs.Values.{ReadingValue}
 use Rattle.loader.specs.Reading.{is_complete, next_read, read_by, read_number, reading_of}
-use Rattle.loader.specs.Load.{Load, AreDue, IsReadNext, bad_fcp, due_by_chain, is_selected, load_after, load_by, load_by_final, load_due, next_or_over, readings_behind, refusal_of, stage_behind}
+use Rattle.loader.specs.Load.{Load, AreDue, IsReadNext, bad_fcp, due_by_chain, is_selected, load_after, load_by, load_by_final, load_due, next_or_over, readings_exchanged, refusal_of, stage_behind}
 
 -- ---- a command that is the same
 
@@ -100,7 +100,7 @@ reads-next : (g : Option ReadingValue) → IsReadNext (next_or_over (option_and_
 reads-next None = tt
 reads-next (Some g) = reads-unless (is_complete g) (read_number g.control (length g.rows)) (reads-by g.control.kind g.control (length g.rows))
 
-reads-selected : (b : Bool) (g : Option ReadingValue) → IsReadNext (if b then next_or_over (option_and_then next_read g) else Over)
+reads-selected : (b : Bool) (g : Option ReadingValue) → IsReadNext (next_or_over (if b then option_and_then next_read g else None))
 reads-selected true g = reads-next g
 reads-selected false g = tt
 
@@ -109,15 +109,15 @@ pub record Left (first : CommandValue) (stage : Stage) : Type 0 where
   pub reads : IsReadNext stage
   pub over : is_path_select first ≡ false → stage ≡ Over
 
-left-selected : (path : List ℕ) (first : CommandValue) (good : Bool) (g : Option ReadingValue) → Left first (if is_path_select first && good then next_or_over (option_and_then next_read g) else Over)
+left-selected : (path : List ℕ) (first : CommandValue) (good : Bool) (g : Option ReadingValue) → Left first (next_or_over (if is_path_select first && good then option_and_then next_read g else None))
 left-selected path first good g = record {
   reads = reads-selected (is_path_select first && good) g;
   over = λ h. rw h refl;
 }
 
-left-final : (b : Bool) (path : List ℕ) (f : Final) (l : Load) → b ≡ false → Left f.command (stage_behind path (readings_behind (if b then None else Some f) l.selected l.readings) (if b then None else Some f) l.stage)
+left-final : (b : Bool) (path : List ℕ) (f : Final) (l : Load) → b ≡ false → Left f.command (stage_behind path (readings_exchanged l.selected (if b then None else Some f) l.readings) (if b then None else Some f) l.stage)
 left-final true path f l h = absurd (cc)
-left-final false path f l h = left-selected path f.command (is_success f.response.sw) (reading_of path (readings_behind (Some f) l.selected l.readings))
+left-final false path f l h = left-selected path f.command (is_success f.response.sw) (reading_of path (readings_exchanged l.selected (Some f) l.readings))
 
 not-passed : {A : Type 0} (b : Bool) (x : A) → (if b then Some x else None) ≡ None → b ≡ false
 not-passed true x h = absurd (cc)

@@ -46,7 +46,7 @@ fn completed_behind(
     readings: &mut Readings,
 ) -> Result<Option<CachedFile>, Memory>
     ensures value { IfOk result (λ file. file ≡ spec.completed_behind answered.now (option_copied selected.entry) readings.old) }
-    ensures readings { OnOk result (readings.new ≡ spec.readings_behind answered.now (option_copied selected.entry) readings.old) }
+    ensures readings { OnOk result (readings.new ≡ spec.readings_exchanged (option_copied selected.entry) answered.now readings.old) }
 {
     match answered {
         None => Ok(None),
