@@ -20,7 +20,6 @@ use Rattle.report.specs.declared.answer.Answer.TheVariants as answer
 use Rattle.adn.specs.declared.edit.PlanError.{PlanError}
 use Rattle.adn.specs.declared.edit.PlanError.TheVariants as plan_error
 use Rattle.families.specs.Families.{family_paths, family_path, shown}
-use Rattle.loader.specs.Values.{ReadingValue}
 use Rattle.link.specs.declared.chain.Chain.{Chain}
 use Rattle.rules.specs.declared.due.Due.{Due}
 use Rattle.rules.specs.declared.due.Due.TheVariants.{TellEnd as tell_end, Send as send, ResetCard as reset_card, TryEvent as try_event, TellRefusal as tell_refusal, Publish as publish, Give as give, Begin as begin, WaitFor as wait_for, EndOfActor as end_of_actor, Rest as rest}
