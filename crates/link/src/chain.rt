@@ -31,7 +31,8 @@ pub struct Chain {
 }
 
 impl Chain {
-    /// The chain behind an exchange, given the chain before it; none where no exchange of the command is to follow.
+    /// The chain behind an exchange, given the chain before it; none where no exchange of the
+    /// command is to follow.
     pub fn after(command: &Command, response: &Response, before: Option<&Chain>) -> Option<Chain>
         ensures { result ≡ rule.chain_after command.now response.now (option_copied before.entry) }
     {
@@ -64,7 +65,8 @@ pub struct Final {
 }
 
 impl Final {
-    /// The final response, where an exchange after so many events gave it, given the chain before that exchange.
+    /// The final response, where an exchange after so many events gave it, given the chain before
+    /// that exchange.
     pub fn after(
         actor: u8,
         command: &Command,
@@ -73,7 +75,8 @@ impl Final {
         before: Option<&Chain>,
     ) -> Option<Final>
         requires { events + 1 < 2 ^ 64 }
-        ensures { result ≡ rule.final_after actor command.now response.now events (option_copied before.entry) }
+        ensures { result
+            ≡ rule.final_after actor command.now response.now events (option_copied before.entry) }
     {
         let going_on = continued(command, before);
         let count = count_of(going_on);

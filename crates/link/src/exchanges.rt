@@ -49,9 +49,12 @@ fn go_on<S: Slot>(
     requires due { continued due.now (option_copied before) ≡ option_copied before }
     requires few { count_of (option_copied before) < most_exchanges }
     requires room { length trail.old ≤ 12 + count_of (option_copied before) }
-    ensures trail { Grows (most_exchanges - count_of (option_copied before.entry)) trail.old trail.new }
-    ensures sends { exchanged due.now (option_copied before.entry) (added trail.old trail.new) ≡ Some (result, []) }
-    ensures ends { Ends (most_exchanges - count_of (option_copied before.entry)) trail.old trail.new result }
+    ensures trail { Grows (most_exchanges - count_of (option_copied before.entry))
+        trail.old trail.new }
+    ensures sends { exchanged due.now (option_copied before.entry) (added trail.old trail.new)
+        ≡ Some (result, []) }
+    ensures ends { Ends (most_exchanges - count_of (option_copied before.entry))
+        trail.old trail.new result }
     ensures slot { Plays (seen (S.world slot.old) (S.plan slot.old) (S.faults slot.old))
         (added trail.old trail.new)
         (seen (S.world slot.new) (S.plan slot.new) (S.faults slot.new)) }
@@ -71,7 +74,8 @@ fn go_on<S: Slot>(
 fn chain_behind(due: &Command, response: &Response, before: Option<&Chain>) -> Option<Chain>
     requires { continued due.now (option_copied before) ≡ option_copied before }
     ensures value { result ≡ chain_after due.now response.now (option_copied before.entry) }
-    ensures rises { IfSome result (λ chain. chain.count ≡ count_of (option_copied before.entry) + 1) }
+    ensures rises { IfSome result
+        (λ chain. chain.count ≡ count_of (option_copied before.entry) + 1) }
     ensures few { IfSome result (λ chain. chain.count < most_exchanges) }
     ensures due { IfSome result (λ chain. continued chain.next (Some chain) ≡ Some chain) }
 {
@@ -96,7 +100,8 @@ fn exchange<S: Slot>(
     trail: &mut Trail,
 ) -> Result<Response, SlotFault>
     requires { length trail.old < 16 }
-    ensures step { trail.new ≡ trail.old ++ (record { command = command.now; outcome = result }) ∷ [] }
+    ensures step { trail.new
+        ≡ trail.old ++ (record { command = command.now; outcome = result }) ∷ [] }
     ensures slot { Exchanges (seen (S.world slot.old) (S.plan slot.old) (S.faults slot.old))
         (record { command = command.now; outcome = result })
         (seen (S.world slot.new) (S.plan slot.new) (S.faults slot.new)) }

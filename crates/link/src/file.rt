@@ -41,8 +41,8 @@ pub fn select_fcp<S: Slot>(
     transmit_followed(slot, selection, &select_for_reading(path), trail)
 }
 
-/// Sends SELECT of a path, without an answer, where the path is not current, and then the command, unless the SELECT did not
-/// succeed.
+/// Sends SELECT of a path, without an answer, where the path is not current, and then the command,
+/// unless the SELECT did not succeed.
 pub fn file_command<S: Slot>(
     slot: &mut S,
     selection: &mut Selection,
@@ -81,7 +81,8 @@ fn answered<S: Slot>(
 ) -> Result<FileAnswer, LinkError>
     requires { length trail.old ≤ 12 }
     ensures trail { Grows 4 trail.old trail.new }
-    ensures sends { answer_to (exchanged command.now None (added trail.old trail.new)) ≡ Some (result, []) }
+    ensures sends { answer_to (exchanged command.now None (added trail.old trail.new))
+        ≡ Some (result, []) }
     ensures last { last_answer trail.new ≡ Some (response_in result) }
     ensures slot { Plays (seen (S.world slot.old) (S.plan slot.old) (S.faults slot.old))
         (added trail.old trail.new)

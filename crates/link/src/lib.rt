@@ -1,4 +1,5 @@
-//! The exchanges of a command with a card: what follows a response 61XX or 6CXX, and what is selected on the basic channel.
+//! The exchanges of a command with a card: what follows a response 61XX or 6CXX, and what is
+//! selected on the basic channel.
 #![tactic(auto)]
 
 mod chain;

@@ -10,8 +10,8 @@ use apdu::{Command, Path, Response};
 use card_model::Step;
 use std::marker::Model;
 
-/// The file or directory that is current on the basic channel, as far as known. Contracts see its path, where one is known;
-/// none is where the master file is current.
+/// The file or directory that is current on the basic channel, as far as known. Contracts see its
+/// path, where one is known. The master file has none.
 #[derive(Drop)]
 pub struct Selection {
     current: Option<Path>,

@@ -7,7 +7,8 @@ use arrayvec::ArrayVec;
 use card_model::{Slot, SlotFault};
 use std::test::Fail;
 
-// It answers READ BINARY with 6C05 and 6103, GET RESPONSE with success, STATUS with 6C01 always, and refuses SELECT.
+// It answers READ BINARY with 6C05 and 6103, GET RESPONSE with success, STATUS with 6C01 always,
+// and refuses SELECT.
 #[derive(Drop)]
 struct Terse {
     faults: u64,
