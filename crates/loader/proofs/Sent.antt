@@ -20,15 +20,15 @@ use Rattle.link.specs.declared.chain.Chain.{Chain}
 use Rattle.link.specs.declared.chain.Final.{Final}
 use Rattle.link.specs.declared.exchanges.LinkError.{LinkError}
 use Rattle.link.specs.declared.exchanges.LinkError.TheVariants as link
-use Rattle.link.specs.Commands.{asks_more, chain_after, chain_count, chain_first, continued, final_after, first_of, follow_up, is_path_select, is_reading_select, is_refused}
+use Rattle.link.specs.Commands.{asks_more, chain_count, chain_first, final_after, first_of, follow_up, is_path_select, is_reading_select, is_refused}
 use Rattle.link.specs.Exchanges.{Grows, added, answer_of, chain_of, exchanged}
 use Rattle.link.proofs.Steps.{each-continued}
 use Rattle.loader.specs.declared.stage.LoadError.TheVariants as error
 use Rattle.loader.specs.declared.stage.Stage.{Stage}
-use Rattle.loader.specs.declared.stage.Stage.TheVariants.{Fresh, Next, Over}
+use Rattle.loader.specs.declared.stage.Stage.TheVariants.{Over}
 use Rattle.loader.specs.Values.{ReadingValue}
 use Rattle.loader.specs.Reading.{is_complete, next_read, read_by, read_number, reading_of}
-use Rattle.loader.specs.Load.{Load, AreDue, IsReadNext, bad_fcp, due_by_chain, is_selected, load_after, load_by, load_by_final, load_due, next_or_over, readings_exchanged, refusal_of, stage_behind}
+use Rattle.loader.specs.Load.{Load, AreDue, IsReadNext, bad_fcp, due_by_chain, load_after, load_by, load_due, next_or_over, readings_exchanged, refusal_of, stage_behind}
 
 -- ---- a command that is the same
 

@@ -4,7 +4,7 @@
 -- then sends the first READ. Later it sends the next READ, behind a SELECT without an answer where another file is current. What follows a
 -- response 61XX or 6CXX is sent at once. A turn ends behind its READ, behind a SELECT that leaves no READ, behind a refusal, and behind an
 -- exchange that failed.
-use Rattle.std.specs.Prelude.{◌≡◌, ◌≤◌, ℕ, ◌+◌, ◌&&◌, Bool, true, false, if◌then◌else◌, List, [], ◌∷◌, Option, Some, None, option_map, option_and_then, Result, Ok, Err}
+use Rattle.std.specs.Prelude.{◌≡◌, ◌≤◌, ℕ, ◌+◌, ◌&&◌, Bool, true, false, if◌then◌else◌, List, [], ◌∷◌, Option, Some, None, option_and_then, Result, Ok, Err}
 use Rattle.apdu.specs.Values.{CommandValue, ResponseValue}
 use Rattle.apdu.specs.Apdu.{is_success, wants_more}
 use Rattle.apdu.specs.Stream.{Rose}

@@ -1,4 +1,4 @@
-use Rattle.std.proofs.Common.{◌≡◌, ◌<◌, ◌+◌, ◌++◌, ◌∷◌, [], length, take, refl, ap, sym, ◌∙◌, subst, arith, List, ℕ}
+use Rattle.std.proofs.Common.{◌≡◌, ◌<◌, ◌+◌, ◌++◌, ◌∷◌, [], length, take, refl, ap, sym, ◌∙◌, subst, arith}
 use Rattle.apdu.specs.Words.{filled_to}
 use Rattle.fcp.specs.Buffer.{rows_of}
 use Rattle.loader.specs.Buffer.{row_len}
