@@ -20,15 +20,15 @@ use Rattle.link.specs.declared.chain.Chain.{Chain}
 use Rattle.link.specs.declared.chain.Final.{Final}
 use Rattle.link.specs.declared.exchanges.LinkError.{LinkError}
 use Rattle.link.specs.declared.exchanges.LinkError.TheVariants as link
-use Rattle.link.specs.Commands.{asks_more, chain_after, chain_count, chain_first, continued, final_after, first_of, follow_up, is_path_select, is_reading_select, is_refused}
+use Rattle.link.specs.Commands.{asks_more, chain_count, chain_first, final_after, first_of, follow_up, is_path_select, is_reading_select, is_refused}
 use Rattle.link.specs.Exchanges.{Grows, added, answer_of, chain_of, exchanged}
 use Rattle.link.proofs.Steps.{each-continued}
 use Rattle.loader.specs.declared.stage.LoadError.TheVariants as error
 use Rattle.loader.specs.declared.stage.Stage.{Stage}
-use Rattle.loader.specs.declared.stage.Stage.TheVariants.{Fresh, Next, Over}
+use Rattle.loader.specs.declared.stage.Stage.TheVariants.{Over}
 use Rattle.loader.specs.Values.{ReadingValue}
 use Rattle.loader.specs.Reading.{is_complete, next_read, read_by, read_number, reading_of}
-use Rattle.loader.specs.Load.{Load, AreDue, IsReadNext, bad_fcp, due_by_chain, is_selected, load_after, load_by, load_by_final, load_due, next_or_over, readings_behind, refusal_of, stage_behind}
+use Rattle.loader.specs.Load.{Load, AreDue, IsReadNext, bad_fcp, due_by_chain, load_after, load_by, load_due, next_or_over, readings_exchanged, refusal_of, stage_behind}
 
 -- ---- a command that is the same
 
@@ -100,7 +100,7 @@ reads-next : (g : Option ReadingValue) → IsReadNext (next_or_over (option_and_
 reads-next None = tt
 reads-next (Some g) = reads-unless (is_complete g) (read_number g.control (length g.rows)) (reads-by g.control.kind g.control (length g.rows))
 
-reads-selected : (b : Bool) (g : Option ReadingValue) → IsReadNext (if b then next_or_over (option_and_then next_read g) else Over)
+reads-selected : (b : Bool) (g : Option ReadingValue) → IsReadNext (next_or_over (if b then option_and_then next_read g else None))
 reads-selected true g = reads-next g
 reads-selected false g = tt
 
@@ -109,15 +109,15 @@ pub record Left (first : CommandValue) (stage : Stage) : Type 0 where
   pub reads : IsReadNext stage
   pub over : is_path_select first ≡ false → stage ≡ Over
 
-left-selected : (path : List ℕ) (first : CommandValue) (good : Bool) (g : Option ReadingValue) → Left first (if is_path_select first && good then next_or_over (option_and_then next_read g) else Over)
+left-selected : (path : List ℕ) (first : CommandValue) (good : Bool) (g : Option ReadingValue) → Left first (next_or_over (if is_path_select first && good then option_and_then next_read g else None))
 left-selected path first good g = record {
   reads = reads-selected (is_path_select first && good) g;
   over = λ h. rw h refl;
 }
 
-left-final : (b : Bool) (path : List ℕ) (f : Final) (l : Load) → b ≡ false → Left f.command (stage_behind path (readings_behind (if b then None else Some f) l.selected l.readings) (if b then None else Some f) l.stage)
+left-final : (b : Bool) (path : List ℕ) (f : Final) (l : Load) → b ≡ false → Left f.command (stage_behind path (readings_exchanged l.selected (if b then None else Some f) l.readings) (if b then None else Some f) l.stage)
 left-final true path f l h = absurd (cc)
-left-final false path f l h = left-selected path f.command (is_success f.response.sw) (reading_of path (readings_behind (Some f) l.selected l.readings))
+left-final false path f l h = left-selected path f.command (is_success f.response.sw) (reading_of path (readings_exchanged l.selected (Some f) l.readings))
 
 not-passed : {A : Type 0} (b : Bool) (x : A) → (if b then Some x else None) ≡ None → b ≡ false
 not-passed true x h = absurd (cc)
@@ -188,12 +188,12 @@ sent (step ∷ steps) path c first l r due is h =
     let chained : behind.chain ≡ o = load-chain path step.command step.outcome l in
     let started : chain_first step.command l.chain ≡ first = ap (λ (d : CommandValue). chain_first d l.chain) e ∙ is in
     let s : Sent path steps first behind r = sent-rest o path steps first behind (answer_of step.command step.outcome) r chained
-        (λ none. subst (λ (f : CommandValue). Left f behind.stage) started (left-by path step.command step.outcome l none))
-        (fault-by path step.command step.outcome l)
-        (λ chain k x. sent steps path chain.next first behind r (due-behind path behind chain (chained ∙ k))
-            (ap (chain_first chain.next) (chained ∙ k) ∙ chain-first-next chain ∙ chain-from step.command step.outcome l.chain chain k ∙ started)
-            (ap (λ (b : Option Chain). exchanged chain.next b steps) (chained ∙ k) ∙ x))
-        (behind-test (same_command step.command c) rest (r, []) h) in
+    (λ none. subst (λ (f : CommandValue). Left f behind.stage) started (left-by path step.command step.outcome l none))
+    (fault-by path step.command step.outcome l)
+    (λ chain k x. sent steps path chain.next first behind r (due-behind path behind chain (chained ∙ k))
+    (ap (chain_first chain.next) (chained ∙ k) ∙ chain-first-next chain ∙ chain-from step.command step.outcome l.chain chain k ∙ started)
+    (ap (λ (b : Option Chain). exchanged chain.next b steps) (chained ∙ k) ∙ x))
+    (behind-test (same_command step.command c) rest (r, []) h) in
     record { due = (due ∙ ap (λ (d : CommandValue). Some d) (sym e), s.due); chain = s.chain; left = s.left; fault = s.fault }
 
 pub sent-fresh : (steps : List Step) (path : List ℕ) (c : CommandValue) (l : Load) (r : Result ResponseValue LinkError) → l.chain ≡ None → load_due path l ≡ Some c → exchanged c None steps ≡ Some (r, []) → Sent path steps c l r

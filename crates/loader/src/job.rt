@@ -13,7 +13,9 @@ ghost use Rattle.loader.specs.declared.stage.Stage.TheVariants.{Fresh, Over};
 ghost use Rattle.loader.specs.Reading.{unspoiled};
 
 use crate::turning::{Turning, reading_command, refusal_behind, stage_behind};
-use crate::{LoadError, LoadTurn, Readings, Stage, completed_by, drop_spoiled, reading_of};
+use crate::{
+    LoadError, LoadTurn, Reading, Readings, Stage, completed_by, drop_spoiled, reading_of,
+};
 use apdu::{Command, Memory, Path, Response, Sequence};
 use arrayvec::ArrayVec;
 use card_model::{Slot, Step, Trail};
@@ -46,7 +48,7 @@ fn completed_behind(
     readings: &mut Readings,
 ) -> Result<Option<CachedFile>, Memory>
     ensures value { IfOk result (λ file. file ≡ spec.completed_behind answered.now (option_copied selected.entry) readings.old) }
-    ensures readings { OnOk result (readings.new ≡ spec.readings_behind answered.now (option_copied selected.entry) readings.old) }
+    ensures readings { OnOk result (readings.new ≡ spec.readings_exchanged (option_copied selected.entry) answered.now readings.old) }
 {
     match answered {
         None => Ok(None),
@@ -75,13 +77,6 @@ fn steps_from(trail: &Trail, from: usize) -> &[Step]
     &trail.as_slice()[from..]
 }
 
-// The first path that is not current.
-fn missing_of(cache: &Cache, paths: &[Path]) -> Option<Path>
-    ensures { result ≡ first_missing cache.now.files paths.now }
-{
-    Some(first_missing_file(cache.files(), paths)?.copy())
-}
-
 impl LoadJob {
     pub fn begin(alloc: Global, paths: ArrayVec<Path, 8>) -> LoadJob
         ensures { result ≡ record { paths = paths.items; readings = [] } }
@@ -91,6 +86,21 @@ impl LoadJob {
             paths,
             readings: Sequence::new(alloc),
         }
+    }
+
+    /// The readings under way.
+    pub fn readings(&self) -> &[Reading]
+        ensures { result.now ≡ self.now.readings }
+    {
+        self.readings.as_slice()
+    }
+
+    /// The first path that is not current.
+    pub fn wants_file(&self, cache: &Cache) -> Option<Path>
+        ensures { result ≡ first_missing cache.now.files self.now.paths }
+    {
+        let paths = self.paths.as_slice();
+        Some(first_missing_file(cache.files(), paths)?.copy())
     }
 
     /// Drops the readings of what an event of others moved or wrote; they begin anew. `selected` was current on the basic channel before
@@ -155,6 +165,7 @@ impl LoadJob {
             }
         }
     }
+
     fn follow_steps(
         &mut self,
         path: &Path,
@@ -269,7 +280,7 @@ impl LoadJob {
         ensures done { spec.HadMemory result (spec.HasTurned
             (first_missing cache.old.files self.old.paths) self.old.paths
             (spec.load_behind (first_missing cache.old.files self.old.paths) (added trail.old trail.new)
-                (spec.load_begun selection.old cache.old.files self.old.readings events))
+            (spec.load_begun selection.old cache.old.files self.old.readings events))
             cache.new.files self.new.readings result) }
         ensures paths { self.new.paths ≡ self.old.paths }
         ensures bound { highest_version cache.new.places ≡ highest_version cache.old.places }
@@ -301,12 +312,12 @@ impl LoadJob {
         ensures done { spec.HadMemory result (spec.HasTurned
             (first_missing cache.old.files self.old.paths) self.old.paths
             (spec.load_behind (first_missing cache.old.files self.old.paths) (added trail.old trail.new)
-                (spec.load_begun selection.now cache.old.files self.old.readings events))
+            (spec.load_begun selection.now cache.old.files self.old.readings events))
             cache.new.files self.new.readings result) }
         ensures paths { self.new.paths ≡ self.old.paths }
         ensures bound { highest_version cache.new.places ≡ highest_version cache.old.places }
     {
-        let Some(path) = missing_of(cache, self.paths.as_slice()) else {
+        let Some(path) = self.wants_file(cache) else {
             return self.answer(None, cache);
         };
         let mut turning = Turning {

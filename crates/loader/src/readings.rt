@@ -25,10 +25,7 @@ pub fn reading_of<'a>(path: &Path, readings: &'a [Reading]) -> Option<&'a Readin
 }
 
 /// The reading of the selected file.
-pub fn reading_at<'a>(
-    selected: Option<&Path>,
-    readings: &'a [Reading],
-) -> Option<&'a Reading>
+pub fn reading_at<'a>(selected: Option<&Path>, readings: &'a [Reading]) -> Option<&'a Reading>
     ensures { option_copied result ≡ spec.reading_at (option_copied selected.entry) readings.now }
 {
     match selected {

@@ -1,12 +1,9 @@
-use Rattle.std.proofs.Common.{◌≡◌, false, rules, arith, List, drop, None, refl, ap, sym, ◌∙◌, subst}
-use Rattle.std.proofs.lemmas.Grind.{common_steps}
+use Rattle.std.proofs.Common.{◌≡◌, List, drop, ap, sym, ◌∙◌, subst}
 use Rattle.std.specs.Prelude.{OnOk}
 use Rattle.card_model.specs.declared.trail.Step.{Step}
-use Rattle.link.specs.Commands.{is_path_select}
 use Rattle.link.specs.Exchanges.{added}
 use Rattle.loader.specs.declared.stage.Stage.{Stage}
-use Rattle.loader.specs.declared.stage.Stage.TheVariants.{Over}
-use Rattle.loader.specs.Load.{AreDue, IsReadNext, Load, load_after, load_of}
+use Rattle.loader.specs.Load.{IsReadNext, Load, load_after, load_of}
 use Rattle.loader.proofs.Sent.{Sent, on-ok, sent-fresh}
 use Rattle.loader.proofs.job.LoadJob.send.Goals as goal
 
