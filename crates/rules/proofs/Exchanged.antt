@@ -17,7 +17,8 @@ use Rattle.loader.specs.Values.{ReadingValue}
 use Rattle.loader.specs.Reading.{reading_after, file_of_complete, unspoiled, tells_no_file, no_file}
 use Rattle.rules.specs.declared.kept.Job.{Job}
 use Rattle.rules.specs.Kept.{first_job, job_of, changed_at, change_at}
-use Rattle.rules.specs.After.{completed_of, readings_exchanged}
+use Rattle.rules.specs.After.{completed_of}
+use Rattle.loader.specs.Load.{readings_exchanged}
 use Rattle.rules.specs.Agreement.{IsSelected, Stands, ChainTied, FilesTrue, ReadingsTrue, JobsTrue}
 use Rattle.rules.proofs.Sane.{FineChanges}
 use Rattle.rules.proofs.Chains.{stands_first}

@@ -7,7 +7,6 @@ use Rattle.epoch_cache.specs.Past.{past_of}
 use Rattle.rules.specs.History.{history_after}
 use Rattle.rules.specs.Events.{events_of, KeepsEvents}
 
-
 -- a line's event is put in front, where there is one
 pub one_line : (l : Line) (lines : List Line) → history_after l (past_of (events_of lines)) ≡ past_of (events_of (l ∷ lines))
 one_line (line.Exchange a c r) lines = refl
