@@ -28,6 +28,3 @@ pub use refresh::{asks_reset, handed_refresh, is_moved_by, is_refreshed};
 pub use session::{NeedsPin, PinSession, allowed};
 pub use touch::is_update;
 pub use versions::Versions;
-
-#[cfg(test)]
-mod tests;

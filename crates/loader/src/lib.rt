@@ -16,6 +16,3 @@ pub use reading::{Reading, Readings, RefusedReading};
 pub use readings::{drop_spoiled, read_on, reading_at, reading_of};
 pub use reads::{is_readable, read_number, reads_needed};
 pub use stage::{LoadError, LoadTurn, Stage};
-
-#[cfg(test)]
-mod tests;

@@ -1,13 +1,13 @@
 // What a load sends to a slot that tells nothing of itself, and what it keeps of the answers.
 ghost use Rattle.std.specs.Prelude.{None};
 
-use super::*;
 use apdu::{Command, Path, Response, Sw};
 use arrayvec::ArrayVec;
 use card_model::{Slot, SlotFault, Trail};
 use epoch_cache::{Cache, Touch, Written};
 use fcp::{Fcp, FileKind, write_fcp};
 use link::Selection;
+use loader::{LoadJob, LoadTurn};
 use std::test::Fail;
 
 // A transparent file 2FE2 of 300 bytes, a linear one 6F06 of two rows of one byte, a directory 7F10, and no other. A READ gives P1 twice.

@@ -1,9 +1,9 @@
 // A report with each kind of line and each answer, in words that other reports of this format have.
 
-use super::*;
 use apdu::{Bytes, Command, Memory, Response, Sw, Text};
 use arrayvec::ArrayVec;
 use card_model::WorldEvent;
+use report::{Answer, Line, Lines, Mode, Report, ReservedLines, Seen, write_line, write_report};
 use script::read_script;
 use std::alloc::Global;
 use std::test::Fail;
