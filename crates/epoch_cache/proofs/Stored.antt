@@ -1,5 +1,5 @@
 -- A store of events with one more, and the numbers that are kept of events.
-use Rattle.std.proofs.Common.{◌≡◌, ◌≤◌, ℕ, zero, suc, ◌+◌, ◌-◌, Bool, true, false, List, [], ◌∷◌, ◌++◌, length, take, drop, reverse, refl, ap, sym, ◌∙◌, arith, subst, Ok, Result}
+use Rattle.std.proofs.Common.{◌≡◌, ◌≤◌, ℕ, suc, ◌+◌, Bool, true, false, List, [], ◌∷◌, ◌++◌, length, take, drop, reverse, refl, ap, sym, ◌∙◌, arith, Ok}
 use Rattle.std.proofs.lemmas.List.{take-append-le, drop-append-le, reverse-append, length-reverse, length-drop, take_all}
 use Rattle.std.proofs.Math.Seq.{take-append_seam, drop-append_seam}
 use Rattle.apdu.specs.Values.{CommandValue, ResponseValue}

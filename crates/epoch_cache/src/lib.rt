@@ -7,6 +7,7 @@ mod event;
 mod files;
 mod history;
 mod lists;
+mod moving;
 mod past;
 mod refresh;
 mod session;

@@ -11,3 +11,6 @@ mod Looking
 mod CurrentPaths
 mod HandlesAndSessions
 mod SeenBefore
+mod Happening
+mod Attempts
+mod Planned

@@ -5,7 +5,7 @@ use Rattle.std.proofs.lemmas.Option.{slice_get-map}
 use Rattle.script_reader.specs.declared.types.Script.{Script}
 use Rattle.report.specs.declared.line.Line.{Line}
 use Rattle.report.specs.declared.line.Line.TheVariants as line
-use Rattle.rules.specs.declared.edits.Attempt.{Attempt}
+use Rattle.editor.specs.declared.editing.Attempt.{Attempt}
 use Rattle.rules.specs.declared.kept.Facts.{Facts}
 use Rattle.rules.specs.declared.kept.Job.{Job}
 use Rattle.rules.specs.declared.kept.Kept.{Kept}
@@ -32,7 +32,7 @@ suc_zero i = grind arith
 suc_suc : (n i : ℕ) → (suc n == suc i) ≡ (n == i)
 suc_suc n i = grind arith
 
-set_at : (xs : List Job) (n i : ℕ) (x y : Job) → slice_get xs n ≡ Some x → slice_get (slice_set xs n y) i ≡ (if n == i then Some y else slice_get xs i)
+pub set_at : (xs : List Job) (n i : ℕ) (x y : Job) → slice_get xs n ≡ Some x → slice_get (slice_set xs n y) i ≡ (if n == i then Some y else slice_get xs i)
 set_at [] n i x y h = absurd (cc)
 set_at (z ∷ zs) zero zero x y h = refl
 set_at (z ∷ zs) zero (suc i) x y h = rw (zero_suc i) refl

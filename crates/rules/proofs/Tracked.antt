@@ -123,11 +123,11 @@ line_follows (line.Answered a i given) w sel f right = f
 
 -- ---- legal lines have right responses
 
-first_and : (a b : Bool) → a && b ≡ true → a ≡ true
+pub first_and : (a b : Bool) → a && b ≡ true → a ≡ true
 first_and true b h = refl
 first_and false b h = h
 
-rest_and : (a b : Bool) → a && b ≡ true → b ≡ true
+pub rest_and : (a b : Bool) → a && b ≡ true → b ≡ true
 rest_and true b h = h
 rest_and false b h = absurd (true≢false (sym h))
 

@@ -15,13 +15,13 @@ use Rattle.families.specs.Families.{has_path}
 use Rattle.loader.specs.Values.{ReadingValue}
 use Rattle.link.specs.declared.chain.Chain.{Chain}
 use Rattle.link.specs.declared.chain.Final.{Final}
-use Rattle.rules.specs.declared.edits.Attempt.{Attempt}
-use Rattle.rules.specs.declared.edits.Editing.{Editing}
+use Rattle.editor.specs.declared.editing.Attempt.{Attempt}
+use Rattle.editor.specs.declared.editing.Editing.{Editing}
 use Rattle.epoch_cache.specs.declared.cached.CachedFile.{CachedFile}
 use Rattle.loader.specs.declared.reading.RefusedReading.{RefusedReading}
 use Rattle.epoch_cache.specs.declared.past.Past.{Past}
 use Rattle.rules.specs.declared.holdings.Handle.{Handle}
-use Rattle.rules.specs.declared.holdings.Mailbox.{Mailbox}
+use Rattle.watchers.specs.declared.mailbox.Mailbox.{Mailbox}
 use Rattle.rules.specs.declared.holdings.Session.{Session}
 use Rattle.rules.specs.declared.kept.Begun.{Begun}
 use Rattle.rules.specs.declared.kept.Decision.{Decision}
@@ -43,11 +43,15 @@ use Rattle.epoch_cache.specs.Cache.{asks_reset, is_update}
 use Rattle.rules.specs.Cache.{touch_of, files_behind}
 use Rattle.loader.specs.Reading.{unspoiled, completed_by, refused_by, has_bad_fcp}
 use Rattle.loader.specs.Load.{is_selected, read_behind, readings_exchanged}
-use Rattle.rules.specs.Refresh.{startup_steps, startup_behind, owed_behind}
-use Rattle.rules.specs.Channels.{held_numbers, handles_after, ended_handles, is_opening, opened_number, select_application, close_command}
+use Rattle.refresher.specs.Refresh.{startup_steps}
+use Rattle.rules.specs.Refresh.{startup_behind, owed_behind}
+use Rattle.channels.specs.Channels.{is_opening, opened_number, select_application, close_command}
+use Rattle.rules.specs.Channels.{held_numbers, handles_after, ended_handles}
 use Rattle.rules.specs.Sessions.{sessions_after}
-use Rattle.rules.specs.Watching.{offered_to, mailbox_after}
-use Rattle.rules.specs.Editing.{no_editing, family_edit, attempt_of, next_update, update_command, sent_update, updated_by, lost_update, moved_editing, with_attempt}
+use Rattle.watchers.specs.Watching.{offered_to}
+use Rattle.rules.specs.Watching.{mailbox_after}
+use Rattle.editor.specs.Editing.{no_editing, next_update, update_command, sent_update, updated_by, lost_update, moved_editing, with_attempt}
+use Rattle.rules.specs.Editing.{family_edit, attempt_of}
 use Rattle.rules.specs.Standing.{standing_after, family_wanted}
 use Rattle.rules.specs.Kept.{nothing_kept, operation_at, job_of, begun_of, operation_now, change_at}
 use Rattle.rules.specs.Work.{is_idle, decides, work_of_operation, family_published, framework_work, family_read}

@@ -1,5 +1,5 @@
 -- What a line does to what was read of the card, and to the current files.
-use Rattle.std.specs.Prelude.{ℕ, ◌-◌, Bool, if◌then◌else◌, List, [], Option, None}
+use Rattle.std.specs.Prelude.{ℕ, Bool, if◌then◌else◌, List, [], Option, None}
 use Rattle.report.specs.declared.line.Line.{Line}
 use Rattle.report.specs.declared.line.Line.TheVariants as line
 use Rattle.epoch_cache.specs.declared.cached.CachedFile.{CachedFile}

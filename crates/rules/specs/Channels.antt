@@ -2,23 +2,16 @@
 --
 -- Looking back over the lines: an actor has a handle for a reference, with a number and an epoch, from the answer that a channel was
 -- opened until its close is answered. Held are the numbers of the handles whose epoch lives.
-use Rattle.std.specs.Prelude.{ℕ, ◌==◌, ◌&&◌, ◌||◌, not, Bool, if◌then◌else◌, List, [], ◌∷◌, ◌++◌, map, filter, find, Option, Some, None}
-use Rattle.std.specs.List.{list_all}
-use Rattle.apdu.specs.Values.{CommandValue}
-use Rattle.apdu.specs.Words.{is_one_of, is_between}
-use Rattle.apdu.specs.declared.class.ClassKind.{ClassKind}
-use Rattle.apdu.specs.declared.class.ClassKind.TheVariants.{Plain}
-use Rattle.apdu.specs.Apdu.{command, with_class, class_for, channel_of, select_ins, status_ins, read_binary_ins, update_binary_ins, read_record_ins, update_record_ins, manage_channel_ins, is_success}
+use Rattle.std.specs.Prelude.{ℕ, ◌==◌, ◌&&◌, not, Bool, if◌then◌else◌, List, [], ◌∷◌, ◌++◌, map, filter, find, Option, Some, None}
+use Rattle.apdu.specs.Words.{is_one_of}
+use Rattle.apdu.specs.Apdu.{select_ins, status_ins, read_binary_ins, update_binary_ins, read_record_ins, update_record_ins}
 use Rattle.script_reader.specs.declared.types.Operation.{Operation}
 use Rattle.script_reader.specs.declared.types.Operation.TheVariants as operation
 use Rattle.report.specs.declared.answer.Answer.{Answer}
 use Rattle.report.specs.declared.answer.Answer.TheVariants as answer
 use Rattle.epoch_cache.specs.declared.past.Past.{Past}
 use Rattle.rules.specs.History.{is_living}
-use Rattle.link.specs.declared.chain.Final.{Final}
 use Rattle.rules.specs.declared.holdings.Handle.{Handle}
-
--- ---- handles
 
 abbrev pub is_handle_of : ℕ → ℕ → Handle → Bool
 is_handle_of actor handle h = (h.actor == actor) && (h.handle == handle)
@@ -52,44 +45,6 @@ ended_handle epoch event h = if h.epoch == epoch then record h { ended = Some ev
 abbrev pub ended_handles : ℕ → ℕ → List Handle → List Handle
 ended_handles epoch event handles = map (ended_handle epoch event) handles
 
--- ---- commands
-
-abbrev pub open_command : CommandValue
-open_command = command manage_channel_ins 0x00 0x00 [] (Some 1)
-
-abbrev pub close_command : ℕ → CommandValue
-close_command number = command manage_channel_ins 0x80 number [] None
-
-abbrev pub select_application : ℕ → List ℕ → CommandValue
-select_application channel aid = with_class (class_for Plain channel) (command select_ins 0x04 0x0C aid None)
-
-abbrev pub is_opening : CommandValue → Bool
-is_opening c = (c.ins == manage_channel_ins) && (c.p1 == 0x00)
-
-abbrev pub new_number : List ℕ → List ℕ → Option ℕ
-new_number held (n ∷ []) = if is_between 1 19 n && not (is_one_of n held) then Some n else None
-new_number held _ = None
-
--- the channel that MANAGE CHANNEL opened: one byte from 1 to 19 that no held channel has
-abbrev pub opened_number : List ℕ → Final → Option ℕ
-opened_number held f = if is_success f.response.sw then new_number held f.response.body else None
-
 -- the instructions that an application may send
 abbrev pub is_raw_ins : ℕ → Bool
 is_raw_ins ins = is_one_of ins (select_ins ∷ status_ins ∷ read_binary_ins ∷ update_binary_ins ∷ read_record_ins ∷ update_record_ins ∷ [])
-
-abbrev pub class_on : ℕ → ℕ → Option (ClassKind × ℕ) → ℕ
-class_on channel class None = class
-class_on channel class (Some (kind, other)) = class_for kind channel
-
--- the command with the class of its kind for the channel
-abbrev pub on_channel : ℕ → CommandValue → CommandValue
-on_channel channel c = with_class (class_on channel c.class (channel_of c.class)) c
-
--- ---- the card's channels are the basic one and those held
-
-abbrev pub same_channels : List ℕ → List ℕ → Bool
-same_channels opened held =
-    is_one_of 0 opened
-    && list_all (λ n. (n == 0) || is_one_of n held) opened
-    && list_all (λ n. is_one_of n opened) held

@@ -1,5 +1,5 @@
 -- What a line is to the exchanges of a command, and to what is selected on the basic channel.
-use Rattle.std.specs.Prelude.{ℕ, ◌-◌, not, if◌then◌else◌, List, Option, None}
+use Rattle.std.specs.Prelude.{ℕ, if◌then◌else◌, List, Option, None}
 use Rattle.report.specs.declared.line.Line.{Line}
 use Rattle.report.specs.declared.line.Line.TheVariants as line
 use Rattle.link.specs.declared.chain.Chain.{Chain}

@@ -23,8 +23,8 @@ use Rattle.families.specs.Families.{family_paths, family_path, shown}
 use Rattle.link.specs.declared.chain.Chain.{Chain}
 use Rattle.rules.specs.declared.due.Due.{Due}
 use Rattle.rules.specs.declared.due.Due.TheVariants.{TellEnd as tell_end, Send as send, ResetCard as reset_card, TryEvent as try_event, TellRefusal as tell_refusal, Publish as publish, Give as give, Begin as begin, WaitFor as wait_for, EndOfActor as end_of_actor, Rest as rest}
-use Rattle.rules.specs.declared.edits.Attempt.{Attempt}
-use Rattle.rules.specs.declared.edits.Decided.{Decided}
+use Rattle.editor.specs.declared.editing.Attempt.{Attempt}
+use Rattle.editor.specs.declared.editing.Decided.{Decided}
 use Rattle.rules.specs.declared.holdings.Handle.{Handle}
 use Rattle.rules.specs.declared.kept.Begun.{Begun}
 use Rattle.rules.specs.declared.kept.Job.{Job}
@@ -42,7 +42,8 @@ use Rattle.loader.specs.Load.{selected_first, reading_command}
 use Rattle.rules.specs.Channels.{handle_of, is_raw_ins}
 use Rattle.rules.specs.Sessions.{has_session}
 use Rattle.rules.specs.Watching.{notices_of}
-use Rattle.rules.specs.Editing.{attempt_of, next_update, update_command, left_rows}
+use Rattle.editor.specs.Editing.{next_update, update_command, left_rows}
+use Rattle.rules.specs.Editing.{attempt_of}
 use Rattle.rules.specs.Standing.{board_of}
 use Rattle.rules.specs.Kept.{job_of, begun_of, operation_now}
 use Rattle.rules.specs.Work.{waits_on, has_ended}

@@ -96,7 +96,7 @@ is_failed_exchange (line.Answered a i answer) = false
 
 -- ---- the kept history
 
-abbrev pub first_history : History
+abbrev pub first_history : Past
 first_history = record { events = 0; calls = 0; epoch = 0; living = false; owes_reset = false; announced = None }
 
 -- a FETCH takes the announcement, and a status 91XX makes one of XX bytes; kept is the byte XX
@@ -116,7 +116,7 @@ lives_behind l before = begins_epoch l || (not (stops_epoch l) && before)
 abbrev pub owes_reset_behind : Line → Bool → Bool
 owes_reset_behind l before = is_failed_exchange l || (not (is_epoch_border l) && before)
 
-abbrev pub history_after : Line → Past → History
+abbrev pub history_after : Line → Past → Past
 history_after l h = record {
   events = counted (is_event l) h.events;
   calls = counted (is_call l) h.calls;

@@ -1,5 +1,5 @@
 -- Laws of the rules that a reader would want of them.
-use Rattle.std.specs.Prelude.{◌≡◌, ◌⊎◌, ◌==◌, ℕ, true, if◌then◌else◌, List, [], ◌∷◌, Option, Some, None, is_none, map, option_map, slice_get}
+use Rattle.std.specs.Prelude.{◌≡◌, ◌⊎◌, ◌==◌, ℕ, Bool, true, nat_lt, if◌then◌else◌, List, [], ◌∷◌, Option, Some, None, is_none, map, option_map, slice_get}
 use Rattle.apdu.specs.Words.{is_one_of}
 use Rattle.card_model.specs.declared.world.ChannelState.{ChannelState}
 use Rattle.card_model.specs.declared.world.CardState.{CardState}
@@ -9,9 +9,11 @@ use Rattle.script_reader.specs.declared.types.Script.{Script}
 use Rattle.report.specs.declared.line.Mode.{Mode}
 use Rattle.report.specs.declared.line.Line.{Line}
 use Rattle.report.specs.declared.lines.Report.{Report}
+use Rattle.families.specs.Plans.{plan_updates}
 use Rattle.families.specs.Families.{View, all_families, shown}
 use Rattle.rules.specs.declared.due.Due.TheVariants.{Publish as publish}
 use Rattle.epoch_cache.specs.declared.cached.CachedFile.{CachedFile}
+use Rattle.editor.specs.declared.editing.Attempt.{Attempt}
 use Rattle.rules.specs.declared.kept.Job.{Job}
 use Rattle.rules.specs.declared.kept.Kept.{Kept}
 use Rattle.epoch_cache.specs.Cache.{taken, is_current}
@@ -20,9 +22,10 @@ use Rattle.rules.specs.After.{kept_of}
 use Rattle.rules.specs.State.{world_of, view_in}
 use Rattle.rules.specs.declared.holdings.Session.{Session}
 use Rattle.rules.specs.declared.standing.Standing.{Standing}
+use Rattle.rules.specs.Editing.{attempt_of}
 use Rattle.rules.specs.Channels.{handle_of}
 use Rattle.rules.specs.Sessions.{session_of}
-use Rattle.rules.specs.LookingBack.{event_count, call_count, epoch_number, lives, is_reset_owed, open_announcement, publication_count, mark_count, is_wanted, stale_since, board_shows, was_completed, number_and_epoch, held_as, session_since, answer_count, seen_before}
+use Rattle.rules.specs.LookingBack.{event_count, call_count, epoch_number, lives, is_reset_owed, open_announcement, publication_count, mark_count, is_wanted, stale_since, board_shows, was_completed, number_and_epoch, held_as, session_since, answer_count, seen_before, attempt_since, updates_sent, was_moved, updates_planned}
 use Rattle.rules.specs.Legal.{are_legal_lines, legal, first_broken}
 
 -- ---- judging
@@ -109,6 +112,13 @@ KeepsSessions s lines = (actor key : ℕ) → option_map (λ (p : Session). p.ep
 abbrev pub KeepsAnswers : Script → List Line → Type 0
 KeepsAnswers s lines = (actor : ℕ) (job : Job) → slice_get (kept_of s lines).jobs actor ≡ Some job → (job.answered ≡ answer_count actor lines) × (job.seen ≡ seen_before actor lines)
 
+-- an attempt is the one that began last, with the updates that were sent since, and whether a path of it moved since
+abbrev pub as_of : ℕ → Bool → Attempt → Attempt
+as_of sent moved a = record a { sent = sent; moved = moved }
+
+abbrev pub KeepsAttempts : Script → List Line → Type 0
+KeepsAttempts s lines = (actor : ℕ) (job : Job) → slice_get (kept_of s lines).jobs actor ≡ Some job → attempt_of job.begun ≡ option_map (as_of (updates_sent s actor lines) (was_moved s actor lines)) (attempt_since s actor lines)
+
 pub record LooksBack (s : Script) (lines : List Line) : Type 0 where
   pub history : KeepsHistory s lines
   pub standings : KeepsStandings s lines
@@ -116,6 +126,13 @@ pub record LooksBack (s : Script) (lines : List Line) : Type 0 where
   pub handles : KeepsHandles s lines
   pub sessions : KeepsSessions s lines
   pub answers : KeepsAnswers s lines
+  pub attempts : KeepsAttempts s lines
 
 abbrev pub KeptLooksBack : Type 0
 KeptLooksBack = (s : Script) (lines : List Line) → LooksBack s lines
+
+-- ---- plans
+
+-- over legal lines the updates of an attempt, of which one was sent, are those of the plan for the card as it was before the first
+abbrev pub PlansForTheCard : Type 0
+PlansForTheCard = (s : Script) (m : Mode) (lines : List Line) → are_legal_lines s m lines ≡ true → (actor : ℕ) (job : Job) (a : Attempt) → slice_get (kept_of s lines).jobs actor ≡ Some job → attempt_of job.begun ≡ Some a → nat_lt 0 a.sent ≡ true → plan_updates a.plan ≡ updates_planned s actor lines

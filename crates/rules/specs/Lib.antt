@@ -29,3 +29,4 @@ pub mod WorkedRuns
 pub mod BrokenContents
 pub mod BrokenAnswers
 pub mod BrokenTurns
+pub mod Events

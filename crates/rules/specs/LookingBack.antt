@@ -1,8 +1,12 @@
 -- Notions in words that look back over the lines. What is kept of the lines is proved equal to them, so that nobody has to believe it.
-use Rattle.std.specs.Prelude.{ℕ, ◌+◌, ◌%◌, ◌==◌, ◌&&◌, ◌||◌, not, Bool, true, false, nat_lt, if◌then◌else◌, List, [], ◌∷◌, length, filter, find, Option, Some, None, option_and_then, option_map}
+use Rattle.std.specs.Prelude.{ℕ, ◌+◌, ◌%◌, ◌==◌, ◌&&◌, ◌||◌, not, Bool, true, false, nat_lt, if◌then◌else◌, List, [], ◌∷◌, length, filter, find, Option, Some, None, is_some, option_and_then, option_map}
 use Rattle.std.specs.List.{list_any}
-use Rattle.apdu.specs.Words.{has_value}
-use Rattle.apdu.specs.Apdu.{fetch_ins, is_announcement}
+use Rattle.apdu.specs.Values.{CommandValue}
+use Rattle.apdu.specs.Words.{has_value, or_else}
+use Rattle.apdu.specs.Apdu.{fetch_ins, is_announcement, is_update_ins}
+use Rattle.adn.specs.declared.edit.Edit.{Edit}
+use Rattle.adn.specs.declared.edit.RowUpdate.{RowUpdate}
+use Rattle.card_model.specs.declared.world.World.{World}
 use Rattle.script_reader.specs.declared.types.Script.{Script}
 use Rattle.script_reader.specs.declared.types.Operation.{Operation}
 use Rattle.script_reader.specs.declared.types.Operation.TheVariants as operation
@@ -10,17 +14,22 @@ use Rattle.report.specs.declared.answer.Answer.{Answer}
 use Rattle.report.specs.declared.answer.Answer.TheVariants as answer
 use Rattle.report.specs.declared.line.Line.{Line}
 use Rattle.report.specs.declared.line.Line.TheVariants as line
-use Rattle.families.specs.Families.{family_paths}
+use Rattle.families.specs.Families.{family_path, family_paths}
+use Rattle.link.specs.declared.chain.Chain.{Chain}
+use Rattle.link.specs.Commands.{is_at}
 use Rattle.epoch_cache.specs.declared.cached.CachedFile.{CachedFile}
 use Rattle.loader.specs.declared.reading.RefusedReading.{RefusedReading}
+use Rattle.editor.specs.declared.editing.Attempt.{Attempt}
 use Rattle.rules.specs.declared.holdings.Handle.{Handle}
 use Rattle.rules.specs.declared.kept.Facts.{Facts}
 use Rattle.rules.specs.declared.kept.Kept.{Kept}
-use Rattle.rules.specs.History.{is_event, is_call, begins_epoch, stops_epoch, is_epoch_border, is_failed_exchange}
-use Rattle.epoch_cache.specs.Cache.{renews_one, is_moved, is_unknown_write, is_of}
+use Rattle.rules.specs.History.{counted, is_event, is_call, begins_epoch, stops_epoch, is_epoch_border, is_failed_exchange}
+use Rattle.epoch_cache.specs.Cache.{is_update, moves_one, renews_one, is_moved, is_unknown_write, is_of}
 use Rattle.rules.specs.Standing.{settled_by, refused_in}
-use Rattle.rules.specs.Kept.{operation_at}
-use Rattle.rules.specs.After.{is_publication, is_mark, is_started, facts_of, family_begun, completed_of, refused_of, jobs_beside, kept_of}
+use Rattle.rules.specs.Kept.{operation_at, operation_now}
+use Rattle.rules.specs.State.{world_of}
+use Rattle.rules.specs.Rules.{EditTurn, edit_turn, card_updates}
+use Rattle.rules.specs.After.{is_publication, is_mark, is_started, facts_of, family_begun, completed_of, refused_of, jobs_beside, edit_of, decision_at, kept_of}
 
 -- the file that a line makes current
 abbrev pub completed_in : Line → Facts → Kept → Option CachedFile
@@ -224,3 +233,91 @@ answer_count actor lines = length (filter (answers_of actor) lines)
 abbrev pub seen_before : ℕ → List Line → ℕ
 seen_before actor [] = 0
 seen_before actor (l ∷ earlier) = if answers_of actor l then publication_count earlier else seen_before actor earlier
+
+-- ---- the attempt of an edit
+
+-- the actor's operation begins, or is answered
+abbrev pub is_job_border : ℕ → Line → Bool
+is_job_border actor (line.Begin a i) = a == actor
+is_job_border actor (line.Answered a i given) = a == actor
+is_job_border actor l = false
+
+-- a turn of the actor begins, or its operation does
+abbrev pub is_start_of : ℕ → Line → Bool
+is_start_of actor (line.Turn a) = a == actor
+is_start_of actor (line.Begin a i) = a == actor
+is_start_of actor l = false
+
+-- the attempt that begins with the line
+abbrev pub attempt_begun : Script → ℕ → Line → List Line → Option Attempt
+attempt_begun s actor l earlier = if is_start_of actor l then (decision_at s l (kept_of s earlier)).attempt else None
+
+-- an UPDATE of the actor that is no repetition of the command before it
+abbrev pub is_new_update : CommandValue → Option Chain → Bool
+is_new_update c None = is_update_ins c.ins
+is_new_update c (Some chain) = false
+
+abbrev pub sends_update : Script → ℕ → Line → List Line → Bool
+sends_update s actor (line.Exchange a c r) earlier = (a == actor) && is_new_update c (kept_of s earlier).chain
+sends_update s actor (line.Failed a c d) earlier = (a == actor) && is_new_update c (kept_of s earlier).chain
+sends_update s actor l earlier = false
+
+-- the main file of the family that is edited is current
+abbrev pub is_main_current : Option (List ℕ) → Option (ℕ × Edit) → Bool
+is_main_current selected None = false
+is_main_current selected (Some (f, e)) = is_at selected (family_path f 0)
+
+-- the actor's deciding update succeeded
+abbrev pub decides_edit : Script → ℕ → Line → List Line → Bool
+decides_edit s actor (line.Exchange a c r) earlier = (a == actor) && (is_update c r && is_main_current (kept_of s earlier).selected (edit_of (operation_now s actor (kept_of s earlier).jobs)))
+decides_edit s actor l earlier = false
+
+-- it did since the operation began
+abbrev pub was_decided : Script → ℕ → List Line → Bool
+was_decided s actor [] = false
+was_decided s actor (l ∷ earlier) = not (is_job_border actor l) && (decides_edit s actor l earlier || was_decided s actor earlier)
+
+-- the line moved a path of the attempt
+abbrev pub moves_attempt : Script → Line → List Line → Attempt → Bool
+moves_attempt s l earlier a = moves_one (facts_of s l (kept_of s earlier)).touch a.paths
+
+-- an attempt goes on, unless one of its paths moved before the deciding success
+abbrev pub unless_moved : Bool → (Attempt → Bool) → Option Attempt → Option Attempt
+unless_moved decided moves None = None
+unless_moved decided moves (Some a) = if moves a && not decided then None else Some a
+
+-- the attempt that the actor's operation began last, unless it was moved
+abbrev pub attempt_since : Script → ℕ → List Line → Option Attempt
+attempt_since s actor [] = None
+attempt_since s actor (l ∷ earlier) =
+    if is_job_border actor l then attempt_begun s actor l earlier
+    else or_else (attempt_begun s actor l earlier) (unless_moved (was_decided s actor earlier) (moves_attempt s l earlier) (attempt_since s actor earlier))
+
+-- the operation or its last attempt begins with the line
+abbrev pub begins_attempt : Script → ℕ → Line → List Line → Bool
+begins_attempt s actor l earlier = is_job_border actor l || is_some (attempt_begun s actor l earlier)
+
+-- the updates that the actor sent since
+abbrev pub updates_sent : Script → ℕ → List Line → ℕ
+updates_sent s actor [] = 0
+updates_sent s actor (l ∷ earlier) = if begins_attempt s actor l earlier then 0 else counted (sends_update s actor l earlier) (updates_sent s actor earlier)
+
+-- a path of the attempt moved since
+abbrev pub was_moved : Script → ℕ → List Line → Bool
+was_moved s actor [] = false
+was_moved s actor (l ∷ earlier) = not (begins_attempt s actor l earlier) && (has_value (moves_attempt s l earlier) (attempt_since s actor earlier) || was_moved s actor earlier)
+
+-- ---- the plan of an attempt
+
+abbrev pub turn_updates : World → Option EditTurn → List RowUpdate
+turn_updates world None = []
+turn_updates world (Some e) = card_updates world e
+
+-- the first update of the actor's attempt
+abbrev pub is_first_update : Script → ℕ → Line → List Line → Bool
+is_first_update s actor l earlier = sends_update s actor l earlier && (updates_sent s actor earlier == 0)
+
+-- the updates of the plan for the card as it was before the first update of the attempt
+abbrev pub updates_planned : Script → ℕ → List Line → List RowUpdate
+updates_planned s actor [] = []
+updates_planned s actor (l ∷ earlier) = if is_first_update s actor l earlier then turn_updates (world_of s earlier) (edit_turn s (kept_of s earlier)) else updates_planned s actor earlier

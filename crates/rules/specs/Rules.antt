@@ -31,17 +31,19 @@ use Rattle.report.specs.declared.line.Line.TheVariants as line
 use Rattle.families.specs.Plans.{edited, same_book, plan_updates}
 use Rattle.families.specs.Families.{family_book, family_path, family_plan}
 use Rattle.link.specs.declared.chain.Chain.{Chain}
-use Rattle.rules.specs.declared.edits.Attempt.{Attempt}
-use Rattle.rules.specs.declared.edits.Decided.{Decided}
+use Rattle.editor.specs.declared.editing.Attempt.{Attempt}
+use Rattle.editor.specs.declared.editing.Decided.{Decided}
 use Rattle.rules.specs.declared.kept.Begun.{Begun}
 use Rattle.rules.specs.declared.kept.Kept.{Kept}
 use Rattle.rules.specs.declared.kept.Turn.{Turn}
 use Rattle.rules.specs.declared.standing.Standing.{Standing}
 use Rattle.rules.specs.History.{lives_in}
 use Rattle.link.specs.Commands.{is_at}
-use Rattle.rules.specs.Channels.{held_numbers, same_channels}
+use Rattle.channels.specs.Channels.{same_channels}
+use Rattle.rules.specs.Channels.{held_numbers}
 use Rattle.rules.specs.Sessions.{lacking_key, verify_command}
-use Rattle.rules.specs.Editing.{next_update, update_command, family_edit, card_need, owed_update, left_rows}
+use Rattle.editor.specs.Editing.{next_update, update_command, card_need, owed_update, left_rows}
+use Rattle.rules.specs.Editing.{family_edit}
 use Rattle.rules.specs.Kept.{actor_count, job_of, begun_of, operation_now}
 use Rattle.rules.specs.Work.{is_quiet, is_finished, has_operations_left, waits_on}
 use Rattle.rules.specs.After.{is_raw}
@@ -114,11 +116,15 @@ edit_turn_at s k (Some actor) = edit_turn_of actor (begun_of actor k.jobs) (oper
 abbrev pub edit_turn : Script → Kept → Option EditTurn
 edit_turn s k = edit_turn_at s k k.turn.actor
 
--- the first update of a plan for the card as it is, where the actor holds the session that its file asks for
-abbrev pub first_of_plan : Result Plan PlanError → Option RowUpdate
-first_of_plan (Err e) = None
-first_of_plan (Ok plan) = slice_get (plan_updates plan) 0
+abbrev pub updates_of : Result Plan PlanError → List RowUpdate
+updates_of (Err e) = []
+updates_of (Ok plan) = plan_updates plan
 
+-- the updates of the plan for the card as it is
+abbrev pub card_updates : World → EditTurn → List RowUpdate
+card_updates world e = updates_of (family_plan e.family e.edit (view_in world))
+
+-- its first update, where the actor holds the session that its file asks for
 abbrev pub allowed_on : Kept → EditTurn → CardState → RowUpdate → Option RowUpdate
 allowed_on k e card u = if is_none (lacking_key k.history e.actor k.sessions (card_need card (family_path e.family u.file))) then Some u else None
 
@@ -126,7 +132,7 @@ abbrev pub allowed_in : World → Kept → EditTurn → RowUpdate → Option Row
 allowed_in world k e u = elim (card_inside world) [ None ↦ None | Some card ↦ allowed_on k e card u ]
 
 abbrev pub new_attempt : World → Kept → EditTurn → Option RowUpdate
-new_attempt world k e = option_and_then (allowed_in world k e) (first_of_plan (family_plan e.family e.edit (view_in world)))
+new_attempt world k e = option_and_then (allowed_in world k e) (slice_get (card_updates world e) 0)
 
 -- before the deciding success: the next update of the attempt under way, or the first of a new attempt
 abbrev pub undecided_update : World → Kept → EditTurn → Option Attempt → Option RowUpdate
@@ -142,8 +148,25 @@ ordered_update world k e (Some d) = owed_update true e.begun.editing
 abbrev pub may_update : Kept → EditTurn → Bool
 may_update k e = lives_in k.history e.begun.epoch && not k.turn.updated && is_none k.turn.outcome
 
+abbrev pub same_update : RowUpdate → RowUpdate → Bool
+same_update u v = (u.file == v.file) && ((u.row == v.row) && same_bytes u.bytes v.bytes)
+
+abbrev pub same_updates : List RowUpdate → List RowUpdate → Bool
+same_updates [] [] = true
+same_updates [] (v ∷ vs) = false
+same_updates (u ∷ us) [] = false
+same_updates (u ∷ us) (v ∷ vs) = same_update u v && same_updates us vs
+
+-- an attempt that has sent nothing yet has the updates of the plan for the card as it is
+abbrev pub is_planned_right : World → EditTurn → Option Attempt → Bool
+is_planned_right world e None = true
+is_planned_right world e (Some a) = elim (a.sent == 0) [ true ↦ same_updates (plan_updates a.plan) (card_updates world e) | false ↦ true ]
+
+abbrev pub is_next_update : World → Kept → EditTurn → CommandValue → Bool
+is_next_update world k e c = has_value (λ u. same_command c (update_command u)) (ordered_update world k e e.begun.editing.decided)
+
 abbrev pub is_ordered : World → Kept → EditTurn → CommandValue → Bool
-is_ordered world k e c = may_update k e && has_value (λ u. same_command c (update_command u)) (ordered_update world k e e.begun.editing.decided)
+is_ordered world k e c = may_update k e && (is_planned_right world e e.begun.editing.attempt && is_next_update world k e c)
 
 abbrev pub book_in : World → ℕ → List BookRow
 book_in world f = family_book f (view_in world)

@@ -12,8 +12,8 @@ use Rattle.adn.specs.declared.edit.Edit.{Edit}
 use Rattle.adn.specs.declared.edit.Plan.{Plan}
 use Rattle.families.specs.Plans.{plan_updates}
 use Rattle.families.specs.Families.{family_paths, family_plan}
-use Rattle.rules.specs.declared.edits.Attempt.{Attempt}
-use Rattle.rules.specs.declared.edits.Editing.{Editing}
+use Rattle.editor.specs.declared.editing.Attempt.{Attempt}
+use Rattle.editor.specs.declared.editing.Editing.{Editing}
 use Rattle.epoch_cache.specs.declared.cached.CachedFile.{CachedFile}
 use Rattle.rules.specs.declared.holdings.Handle.{Handle}
 use Rattle.rules.specs.declared.kept.Begun.{Begun}
@@ -24,10 +24,12 @@ use Rattle.rules.specs.declared.kept.Work.{Work}
 use Rattle.rules.specs.declared.kept.Work.TheVariants.{Rests as rests, Refuses as refuses, Lacks as lacks, Sends as sends, Reads as reads, Writes as writes, Resets as resets, Happens as happens}
 use Rattle.rules.specs.History.{lives_in}
 use Rattle.epoch_cache.specs.Cache.{first_missing, view_of_files}
-use Rattle.rules.specs.Channels.{handle_of, is_living_handle, is_raw_ins, on_channel, open_command, close_command}
+use Rattle.channels.specs.Channels.{on_channel, open_command, close_command}
+use Rattle.rules.specs.Channels.{handle_of, is_living_handle, is_raw_ins}
 use Rattle.rules.specs.Sessions.{verify_command}
-use Rattle.rules.specs.Refresh.{startup_steps, startup_command, fetch_command}
-use Rattle.rules.specs.Editing.{planned, next_update, family_edit, edit_paths, first_lack, owed_update}
+use Rattle.refresher.specs.Refresh.{startup_steps, startup_command, fetch_command}
+use Rattle.editor.specs.Editing.{planned, next_update, edit_paths, owed_update}
+use Rattle.rules.specs.Editing.{family_edit, first_lack}
 use Rattle.rules.specs.Standing.{first_stale}
 use Rattle.rules.specs.Kept.{operations_of, job_of, begun_of, operation_now, next_operation}
 

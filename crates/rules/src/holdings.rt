@@ -1,7 +1,6 @@
 // What an actor holds.
 
 use apdu::Sequence;
-use arrayvec::ArrayVec;
 
 /// A channel that an actor holds.
 #[derive(Clone, Copy)]
@@ -23,17 +22,6 @@ pub struct Session {
     pub key: u8,
     /// The epoch in which the PIN was verified.
     pub epoch: u64,
-}
-
-/// The notices of a watching actor.
-#[derive(Drop)]
-pub struct Mailbox {
-    /// Bit f for family f, and bit 7 for an epoch's end.
-    pub mask: u8,
-    /// How many notices came before those that are kept.
-    pub dropped: u64,
-    /// The numbers of the publications, the oldest first.
-    pub numbers: ArrayVec<u64, 64>,
 }
 
 pub type Handles = Sequence<Handle>;

@@ -1,12 +1,14 @@
 // What is kept of the lines so far: all that the rules, and what is due, look back for.
 
-use crate::{Attempt, Editing, Handles, Mailbox, Sessions, Standing};
+use crate::{Handles, Sessions, Standing};
 use adn::PlanError;
 use apdu::{Command, Path, Response, Sequence, Sw};
 use card_model::WorldEvent;
+use editor::{Attempt, Editing};
 use epoch_cache::{CachedFiles, Past, Touch};
 use link::{Chain, Final};
 use loader::Readings;
+use watchers::Mailbox;
 
 /// An operation that has begun and is not answered.
 #[derive(Drop)]

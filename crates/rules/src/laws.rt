@@ -1,5 +1,6 @@
 // Laws of the rules, each the contract of a function that does nothing.
-ghost use Rattle.rules.specs.Laws.{JudgesReports, KeptLooksBack, TellsTruth, TracksSelection};
+ghost use Rattle.rules.specs.Events.{KeepsEvents};
+ghost use Rattle.rules.specs.Laws.{JudgesReports, KeptLooksBack, PlansForTheCard, TellsTruth, TracksSelection};
 
 /// The first broken line is none exactly where the report is legal.
 pub fn legal_or_broken()
@@ -17,7 +18,18 @@ pub fn selection_is_tracked()
 {}
 
 /// What is kept of the lines is what the words say that look back over them: events and epochs, how each
-/// family stands, current paths, and what an actor holds.
+/// family stands, current paths, what an actor holds, and the attempt of its edit.
 pub fn kept_looks_back()
     ensures { KeptLooksBack }
+{}
+
+/// Over legal lines the updates of an attempt that was begun are those of the plan for the card as it was before the
+/// first of them.
+pub fn attempt_is_planned_for_the_card()
+    ensures { PlansForTheCard }
+{}
+
+/// A history of the events that the lines show keeps what is kept of the lines as their history.
+pub fn history_keeps_events()
+    ensures { KeepsEvents }
 {}

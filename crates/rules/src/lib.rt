@@ -3,7 +3,6 @@
 #![tactic(auto)]
 
 mod due;
-mod edits;
 mod holdings;
 mod judging;
 mod kept;
@@ -11,8 +10,7 @@ mod laws;
 mod standing;
 
 pub use due::Due;
-pub use edits::{Attempt, Decided, Editing};
-pub use holdings::{Handle, Handles, Mailbox, Session, Sessions};
+pub use holdings::{Handle, Handles, Session, Sessions};
 pub use judging::{
     judges_broken_answers, judges_broken_channels, judges_broken_edits, judges_broken_ending,
     judges_broken_faults, judges_broken_responses, judges_broken_rest, judges_broken_snapshots,
@@ -23,5 +21,8 @@ pub use judging::{
     performs_worked_refreshes, performs_worked_slots,
 };
 pub use kept::{Begun, Decision, Facts, Job, Jobs, Kept, Outcome, Stage, Turn, Work};
-pub use laws::{due_publication_is_true, kept_looks_back, legal_or_broken, selection_is_tracked};
+pub use laws::{
+    attempt_is_planned_for_the_card, due_publication_is_true, history_keeps_events,
+    kept_looks_back, legal_or_broken, selection_is_tracked,
+};
 pub use standing::Standing;

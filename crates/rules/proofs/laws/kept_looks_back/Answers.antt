@@ -2,6 +2,7 @@ use Rattle.rules.proofs.Looking.{history, standings}
 use Rattle.rules.proofs.CurrentPaths.{paths}
 use Rattle.rules.proofs.HandlesAndSessions.{handles, sessions}
 use Rattle.rules.proofs.SeenBefore.{answers}
+use Rattle.rules.proofs.Attempts.{attempts_back}
 use Rattle.rules.proofs.laws.kept_looks_back.Goals as goal
 
 pub returns : goal.returns
@@ -12,4 +13,5 @@ returns c = λ s lines. record {
   handles = handles s lines;
   sessions = sessions s lines;
   answers = answers s lines;
+  attempts = attempts_back s lines;
 }

@@ -1,4 +1,4 @@
-use Rattle.std.proofs.Common.{◌≡◌, ◌∷◌, ◌++◌, [], ◌∙◌, ap, sym, arith, length, length-append}
+use Rattle.std.proofs.Common.{◌∷◌, ◌++◌, [], ◌∙◌, ap, sym, arith, length, length-append}
 use Rattle.epoch_cache.specs.Past.{past_of, past_after, event_bytes}
 use Rattle.epoch_cache.specs.Store.{history_events, stored_length}
 use Rattle.epoch_cache.proofs.Stored.{past_count, calls_bound, epoch_bound, history_count, history_push, stored_length_push}

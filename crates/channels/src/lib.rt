@@ -1,0 +1,2 @@
+//! The commands of logical channels. This crate has definitions alone so far.
+#![tactic(auto)]
