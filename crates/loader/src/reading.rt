@@ -1,5 +1,5 @@
 // A file that is being read.
-ghost use Rattle.std.specs.Prelude.{◌≡◌, ◌≤◌, ◌<◌, ◌+◌, ◌++◌, ◌∷◌, [], true, IfOk, take, length};
+ghost use Rattle.std.specs.Prelude.{◌≡◌, ◌≤◌, ◌<◌, ◌+◌, ◌++◌, ◌∷◌, [], true, None, IsOk, IfOk, take, length};
 ghost use Rattle.apdu.specs.Words.{filled_to};
 ghost use Rattle.fcp.specs.Buffer.{rows_of};
 ghost use Rattle.loader.specs.Buffer as buffer;
@@ -89,7 +89,8 @@ fn content_of(alloc: Global, control: &Fcp, count: usize, bytes: Bytes) -> Rows
 impl Reading {
     /// The reading that a SELECT begins, where it asks for the control parameters and gets them.
     pub fn begun(alloc: Global, answered: &Final) -> Result<Option<Reading>, Memory>
-        ensures { IfOk result (λ g. g ≡ spec.begun answered.now) }
+        ensures value { IfOk result (λ g. g ≡ spec.begun answered.now) }
+        ensures room { spec.begun answered.now ≡ None → IsOk result }
     {
         if !answered.response.sw.is_success() {
             return Ok(None);
