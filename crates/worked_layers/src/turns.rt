@@ -10,7 +10,8 @@ use link::Selection;
 use loader::{LoadJob, LoadTurn};
 use std::test::Fail;
 
-// A transparent file 2FE2 of 300 bytes, a linear one 6F06 of two rows of one byte, a directory 7F10, and no other. A READ gives P1 twice.
+// A transparent file 2FE2 of 300 bytes, a linear one 6F06 of two rows of one byte, a directory
+// 7F10, and no other. A READ gives P1 twice.
 #[derive(Drop)]
 struct Terse {
     faults: u64,
