@@ -1,4 +1,3 @@
-pub mod Walk
 pub mod Selections
 pub mod Steps
 pub mod Tracking

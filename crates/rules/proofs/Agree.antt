@@ -10,6 +10,7 @@ use Rattle.card_model.specs.declared.world.WorldEvent.TheVariants.{Arm, Out, Ins
 use Rattle.card_model.specs.Step.{card_inside, after_event, armed_in, armed_at, armed_card, with_card}
 use Rattle.script_reader.specs.declared.types.Script.{Script}
 use Rattle.script_reader.specs.Rules.{keeps_rules}
+use Rattle.script_reader.specs.World.{first_world}
 use Rattle.report.specs.declared.line.Line.{Line}
 use Rattle.report.specs.declared.line.Line.TheVariants as line
 use Rattle.families.specs.Families.{phonebook, fixed, all_families, family_paths, family_path}
@@ -19,7 +20,7 @@ use Rattle.rules.specs.declared.due.Due.TheVariants.{Publish as publish}
 use Rattle.rules.specs.Due.{due, kept_text}
 use Rattle.rules.specs.After.{decision_at, kept_of}
 use Rattle.rules.specs.Rules.{has_right_response}
-use Rattle.rules.specs.State.{first_world, world_of, shown_in, same_shown}
+use Rattle.rules.specs.State.{world_of, shown_in, same_shown}
 use Rattle.rules.specs.Agreement.{are_responses_right, TiedInside, edit_at, is_planned, IsPlanned}
 use Rattle.rules.proofs.Sane.{Sane}
 use Rattle.rules.proofs.Worlds.{get_set}

@@ -27,7 +27,8 @@ use Rattle.rules.specs.declared.kept.Begun.{Begun}
 use Rattle.rules.specs.declared.kept.Facts.{Facts}
 use Rattle.rules.specs.declared.kept.Job.{Job}
 use Rattle.rules.specs.declared.kept.Kept.{Kept}
-use Rattle.rules.specs.History.{counted, lives_in}
+use Rattle.rules.specs.History.{lives_in}
+use Rattle.epoch_cache.specs.Past.{counted}
 use Rattle.editor.specs.Editing.{attempt_behind, moved_attempt, edit_paths, sent_update, updated_by, extended_by, with_attempt, no_editing}
 use Rattle.rules.specs.Editing.{attempt_of, family_edit, first_lack}
 use Rattle.rules.specs.Kept.{actor_count, first_job, begun_of, begun_operation, operation_at, operation_now, changed_at, change_at}

@@ -8,7 +8,8 @@ use Rattle.report.specs.declared.line.Line.{Line}
 use Rattle.report.specs.declared.line.Line.TheVariants as line
 use Rattle.families.specs.Families.{all_families}
 use Rattle.rules.specs.declared.standing.Standing.{Standing}
-use Rattle.rules.specs.History.{counted, is_event, is_call, begins_epoch, stops_epoch, is_epoch_border, is_failed_exchange, announced_behind}
+use Rattle.rules.specs.History.{is_event, is_call, begins_epoch, stops_epoch, is_epoch_border, is_failed_exchange, announced_behind}
+use Rattle.epoch_cache.specs.Past.{counted}
 use Rattle.rules.specs.Standing.{first_standing, unless_settled, shown_behind, standing_after}
 use Rattle.rules.specs.After.{is_publication, is_mark, facts_of, family_begun, refused_of, jobs_beside, kept_of}
 use Rattle.rules.specs.LookingBack.{is_of_announcement, announced_by, open_announcement, is_of_board, shown_by, board_shows, begins_use, is_wanted, makes_stale, settles, last_renewal, settled_since, is_settled, stale_since}

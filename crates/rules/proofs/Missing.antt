@@ -18,7 +18,7 @@ use Rattle.link.specs.declared.chain.Final.{Final}
 use Rattle.link.specs.Commands.{is_basic_select, is_path_select, is_reading_select, named_path, file_not_found}
 use Rattle.loader.specs.Reading.{tells_no_file, no_file}
 use Rattle.rules.specs.Agreement.{IsStarted, SameButLe, Stands, itself, again, waits, FileTrue}
-use Rattle.rules.proofs.Selected.{ids_path}
+use Rattle.link.proofs.Selections.{ids_path}
 use Rattle.rules.proofs.Readings.{CompletedTrue, file_of_same}
 
 none_by : (apart inside dir : Bool) (usim app : Option ℕ) (at : Option FileState) → (apart ≡ true → inside ≡ true) → (if apart then is_some app else ((is_some at || dir) && (if inside then is_some app && same_number app usim else true))) ≡ false → ((inside ≡ false) ⊎ ((usim ≡ None) ⊎ (app ≡ usim))) → (if inside && is_none usim then None else at) ≡ None

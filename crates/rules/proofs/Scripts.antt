@@ -8,9 +8,10 @@ use Rattle.card_model.specs.declared.world.WorldEvent.{WorldEvent}
 use Rattle.card_model.specs.declared.world.WorldEvent.TheVariants.{Arm, Out, Insert}
 use Rattle.card_model.specs.Step.{on_card, card_inside, with_card, step, step_of_place, step_of_card, armed_in, armed_at, armed_card, after_event, after_reset, reset_in, inserted, reset_card}
 use Rattle.script_reader.specs.declared.types.Script.{Script}
+use Rattle.script_reader.specs.World.{first_world}
 use Rattle.report.specs.declared.line.Line.{Line}
 use Rattle.report.specs.declared.line.Line.TheVariants as line
-use Rattle.rules.specs.State.{first_world, world_of, world_after}
+use Rattle.rules.specs.State.{world_of, world_after}
 use Rattle.card_effects.specs.Fine.{FineFiles}
 use Rattle.card_effects.proofs.Effects.{effect}
 use Rattle.rules.proofs.Sane.{Sane}

@@ -15,19 +15,12 @@ use Rattle.card_effects.specs.Effect.{acted, basic}
 use Rattle.card_effects.specs.Basic.{LeavesBasic, SelectsBasic, HasCurrent}
 use Rattle.card_effects.proofs.Basic.{ids_len, current_stays, current_behind}
 use Rattle.link.specs.Commands.{is_basic_select, named_path, selection_after}
+use Rattle.link.proofs.Selections.{ids_path, now_current}
 use Rattle.rules.specs.Rules.{has_right_response}
 use Rattle.rules.specs.Agreement.{IsSelected}
 use Rattle.rules.proofs.Worlds.{steps_card, Alike, response_is}
 
 -- ---- one card
-
--- these ids are a path
-pub ids_path : (ids path : List ℕ) → path_of ids ≡ Some path → ids ≡ path
-ids_path ids path h = by_test (is_between 1 3 (length ids)) h
-  where
-    by_test : (b : Bool) → (if b then Some ids else None) ≡ Some path → ids ≡ path
-    by_test true q = cc
-    by_test false q = absurd (cc)
 
 pub ids_named : (body : List ℕ) → is_one_of (length body) (2 ∷ 4 ∷ 6 ∷ []) ≡ true → (path : List ℕ) × (path_of (ids_of body) ≡ Some path)
 ids_named body h = (ids_of body, ids_len body h)
@@ -37,12 +30,9 @@ keeps_current old new None b a h = tt
 keeps_current old new (Some path) b a h = current_stays old new path b a h
 
 module _ (card : CardState) (c : CommandValue) (p : CardState × ResponseValue) (aids : p.0.aids ≡ card.aids) where
-  pub now_current : SelectsBasic card c p → (c.p1 == 0x08) ≡ true → (path : List ℕ) → named_path c ≡ Some path → HasCurrent p.0 path
-  now_current d h path e = subst (HasCurrent p.0) (ids_path (ids_of c.body) path e) (current_behind card c p aids d h)
-
   named_selected : SelectsBasic card c p → (c.p1 == 0x08) ≡ true → (o : Option (List ℕ)) → named_path c ≡ o → IsSelected p.0 o
   named_selected d h None e = tt
-  named_selected d h (Some path) e = now_current d h path e
+  named_selected d h (Some path) e = now_current card c p aids d h path e
 
   by_select : (d : SelectsBasic card c p) → (b : Bool) → (c.p1 == 0x08) ≡ b → IsSelected p.0 (if b then named_path c else None)
   by_select d false h = tt

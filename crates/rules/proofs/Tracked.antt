@@ -21,7 +21,8 @@ use Rattle.rules.specs.State.{world_after, world_of, State, state_of}
 use Rattle.rules.specs.Rules.{has_right_response}
 use Rattle.rules.specs.Legal.{Tests, all_pass, changed_in, line_tests, is_legal_line, are_legal_lines}
 use Rattle.rules.specs.Agreement.{are_responses_right, IsSelected}
-use Rattle.link.specs.Selected.{basic_in, current_on, Follows, FollowsInside}
+use Rattle.link.specs.Selected.{current_on, Follows, FollowsInside}
+use Rattle.link.proofs.Selections.{basic_is}
 use Rattle.rules.proofs.States.{state_world}
 use Rattle.rules.proofs.Worlds.{arm_alike}
 use Rattle.rules.proofs.Selected.{answers_right, basic_alike, keeps_current, selected_step}
@@ -101,10 +102,6 @@ selected s (line.Refused f n ∷ e) h = selected s e (and_parts (are_responses_r
 selected s (line.Answered a i given ∷ e) h = selected s e (and_parts (are_responses_right s e) true h).0
 
 -- ---- in the words of the law
-
-basic_is : (cs : List ChannelState) → basic_in cs ≡ find (has_number 0) cs
-basic_is [] = refl
-basic_is (c ∷ cs) = ap (λ (o : Option ChannelState). if c.number == 0 then Some c else o) (basic_is cs)
 
 follows : (card : CardState) (selected : Option (List ℕ)) → IsSelected card selected → Follows card.channels selected
 follows card None h = inl refl

@@ -26,7 +26,7 @@ use Rattle.link.specs.Commands.{is_basic_select, is_path_select, is_reading_sele
 use Rattle.loader.specs.Values.{ReadingValue, is_readable}
 use Rattle.loader.specs.Reading.{begun_by}
 use Rattle.rules.specs.Agreement.{IsSelected, SameButLe, BasicWaits, Stands, itself, again, waits, is_application, HasReading}
-use Rattle.rules.proofs.Selected.{now_current}
+use Rattle.link.proofs.Selections.{now_current}
 use Rattle.rules.proofs.Chains.{parameters_same, same_self, both_basic, is_on_basic}
 
 -- ---- what is claimed

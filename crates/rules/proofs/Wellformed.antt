@@ -24,9 +24,8 @@ use Rattle.script_reader.specs.declared.types.Script.{Script}
 use Rattle.script_reader.specs.Files.{is_kind_within, is_template_within, is_file_within, is_path, has_rows, is_template, has_shape, have_shape, are_files_within, are_placed}
 use Rattle.script_reader.specs.Cards.{is_card, is_listed, is_honest, is_empty_list, is_change_within, is_change_placed, is_change}
 use Rattle.script_reader.specs.Rules.{cards_keep_rules, changes_keep_rules, actors_keep_rules, schedule_keeps_rules, faults_keep_rules, budget_keeps_rules, keeps_rules}
-use Rattle.script_reader.specs.World.{content_of, is_file, file_of, card_of, change_of}
+use Rattle.script_reader.specs.World.{content_of, is_file, file_of, card_of, change_of, first_world}
 use Rattle.script_reader.proofs.Fits.{card_files, change_files}
-use Rattle.rules.specs.State.{first_world}
 use Rattle.rules.proofs.Sane.{FineChange, Sane}
 
 -- ---- a file

@@ -36,7 +36,8 @@ use Rattle.rules.specs.declared.kept.Turn.{Turn}
 use Rattle.rules.specs.declared.kept.Work.{Work}
 use Rattle.rules.specs.declared.kept.Work.TheVariants.{Rests as rests, Sends as sends, Reads as reads, Writes as writes}
 use Rattle.rules.specs.declared.standing.Standing.{Standing}
-use Rattle.rules.specs.History.{counted, stops_epoch, ends_epoch, history_after}
+use Rattle.rules.specs.History.{stops_epoch, ends_epoch, history_after}
+use Rattle.epoch_cache.specs.Past.{counted}
 use Rattle.link.specs.Commands.{is_refused}
 use Rattle.rules.specs.Commands.{chain_behind, final_of, selection_behind}
 use Rattle.epoch_cache.specs.Cache.{asks_reset, is_update}

@@ -11,10 +11,7 @@ use Rattle.card_model.specs.declared.world.WorldEvent.TheVariants as world_event
 use Rattle.report.specs.declared.line.Line.{Line}
 use Rattle.report.specs.declared.line.Line.TheVariants as line
 use Rattle.epoch_cache.specs.declared.past.Past.{Past}
-
--- one more, where the test holds
-abbrev pub counted : Bool → ℕ → ℕ
-counted test n = if test then n + 1 else n
+use Rattle.epoch_cache.specs.Past.{counted, announced_after}
 
 -- ---- kinds of lines
 
@@ -95,16 +92,6 @@ is_failed_exchange (line.Refused f n) = false
 is_failed_exchange (line.Answered a i answer) = false
 
 -- ---- the kept history
-
-abbrev pub first_history : Past
-first_history = record { events = 0; calls = 0; epoch = 0; living = false; owes_reset = false; announced = None }
-
--- a FETCH takes the announcement, and a status 91XX makes one of XX bytes; kept is the byte XX
-abbrev pub announced_after : CommandValue → ResponseValue → Option ℕ → Option ℕ
-announced_after c r before =
-    if c.ins == fetch_ins then None
-    else if is_announcement r.sw then Some (r.sw % 256)
-    else before
 
 abbrev pub announced_behind : Line → Option ℕ → Option ℕ
 announced_behind (line.Exchange a c r) before = announced_after c r before

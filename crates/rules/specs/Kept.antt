@@ -9,7 +9,7 @@ use Rattle.rules.specs.declared.kept.Kept.{Kept}
 use Rattle.rules.specs.declared.kept.Stage.TheVariants.{Over as over}
 use Rattle.rules.specs.declared.kept.Turn.{Turn}
 use Rattle.rules.specs.declared.kept.Work.TheVariants.{Rests as rests}
-use Rattle.rules.specs.History.{first_history}
+use Rattle.epoch_cache.specs.Past.{first_past}
 use Rattle.rules.specs.Standing.{first_standing}
 
 -- ---- the operations of a script; actors are numbered from 1, operations from 0
@@ -48,7 +48,7 @@ no_turn = record {
 
 abbrev pub nothing_kept : Script → Kept
 nothing_kept s = record {
-  history = first_history;
+  history = first_past;
   publications = 0;
   marks = 0;
   chain = None;

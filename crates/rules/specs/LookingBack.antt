@@ -23,7 +23,8 @@ use Rattle.editor.specs.declared.editing.Attempt.{Attempt}
 use Rattle.rules.specs.declared.holdings.Handle.{Handle}
 use Rattle.rules.specs.declared.kept.Facts.{Facts}
 use Rattle.rules.specs.declared.kept.Kept.{Kept}
-use Rattle.rules.specs.History.{counted, is_event, is_call, begins_epoch, stops_epoch, is_epoch_border, is_failed_exchange}
+use Rattle.rules.specs.History.{is_event, is_call, begins_epoch, stops_epoch, is_epoch_border, is_failed_exchange}
+use Rattle.epoch_cache.specs.Past.{counted}
 use Rattle.epoch_cache.specs.Cache.{is_update, moves_one, renews_one, is_moved, is_unknown_write, is_of}
 use Rattle.rules.specs.Standing.{settled_by, refused_in}
 use Rattle.rules.specs.Kept.{operation_at, operation_now}

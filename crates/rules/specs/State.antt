@@ -7,21 +7,18 @@ use Rattle.card_model.specs.declared.world.World.{World}
 use Rattle.card_model.specs.Card.{rows_of}
 use Rattle.card_model.specs.Step.{step, after_reset, after_event, card_inside}
 use Rattle.script_reader.specs.declared.types.Script.{Script}
-use Rattle.script_reader.specs.World.{card_of, change_of}
+use Rattle.script_reader.specs.World.{first_world}
 use Rattle.report.specs.declared.line.Line.{Line}
 use Rattle.report.specs.declared.line.Line.TheVariants as line
 use Rattle.families.specs.Families.{View, all_families, shown}
-use Rattle.rules.specs.History.{is_event, counted}
+use Rattle.rules.specs.History.{is_event}
+use Rattle.epoch_cache.specs.Past.{counted}
 use Rattle.rules.specs.Standing.{board_of}
 use Rattle.rules.specs.declared.kept.Kept.{Kept}
 use Rattle.rules.specs.Kept.{nothing_kept}
 use Rattle.rules.specs.After.{is_publication, kept_after, kept_of}
 
 -- ---- the world
-
--- the script's cards and changes, and an empty slot
-abbrev pub first_world : Script → World
-first_world s = record { cards = map card_of s.cards; inside = None; changes = map change_of s.changes }
 
 abbrev pub world_after : Line → World → World
 world_after (line.Exchange a c r) world = (step world c).0
