@@ -47,9 +47,12 @@ ends_step step (Some f) = nat_lt step startup_steps && same_command f.command (s
 abbrev pub leaves_usim : CommandValue → Bool
 leaves_usim c = is_basic_select c && not (is_path_select c)
 
--- where it may leave the USIM, start-up begins anew
+-- where it may leave the USIM behind start-up, start-up begins anew
 abbrev pub startup_after : CommandValue → Option Final → ℕ → ℕ
-startup_after c f step = if ends_step step f then step + 1 else if leaves_usim c then 0 else step
+startup_after c f step =
+    if ends_step step f then step + 1
+    else if leaves_usim c && (step == startup_steps) then 0
+    else step
 
 -- ---- a TERMINAL RESPONSE
 

@@ -17,6 +17,7 @@ use Rattle.report.specs.declared.line.Line.{Line}
 use Rattle.report.specs.declared.line.Line.TheVariants as line
 use Rattle.families.specs.Plans.{plan_updates}
 use Rattle.link.specs.declared.chain.Chain.{Chain}
+use Rattle.link.specs.Commands.{continued}
 use Rattle.epoch_cache.specs.declared.cached.Touch.{Touch}
 use Rattle.epoch_cache.specs.Cache.{moves_one}
 use Rattle.editor.specs.declared.editing.Attempt.{Attempt}
@@ -209,9 +210,9 @@ module _ (s : Script) (w : World) (k : Kept) (i : ℕ) (c : CommandValue) (b : B
       (subst (λ o. is_planned_right w e o ≡ true) (ap (λ (x : Begun). x.editing.attempt) (begun_in e h) ∙ under)
       (first_and (is_planned_right w e e.begun.editing.attempt) (is_next_update w k e c) (rest_and (may_update k e) _ ordered)))
 
-  by_turn : (book : EditTurn → Bool) (o : Option EditTurn) → edit_turn s k ≡ o → k.chain ≡ None → (elim o [ None ↦ false | Some e ↦ is_sent_right w k e c k.chain && book e ]) ≡ true → plan_updates a.plan ≡ turn_updates w o
+  by_turn : (book : EditTurn → Bool) (o : Option EditTurn) → edit_turn s k ≡ o → k.chain ≡ None → (elim o [ None ↦ false | Some e ↦ is_sent_right w k e c (continued c k.chain) && book e ]) ≡ true → plan_updates a.plan ≡ turn_updates w o
   by_turn book None h chain right = absurd (true≢false (sym right))
-  by_turn book (Some e) h chain right = by_order e h (subst (λ o. is_sent_right w k e c o ≡ true) chain (first_and (is_sent_right w k e c k.chain) (book e) right))
+  by_turn book (Some e) h chain right = by_order e h (subst (λ o. is_sent_right w k e c (continued c o) ≡ true) chain (first_and (is_sent_right w k e c (continued c k.chain)) (book e) right))
 
   outside : is_update_ins c.ins ≡ true → has_value is_raw (operation_now s i k.jobs) ≡ false → is_outside_raw s k c ≡ true
   outside update raw = rw (update, actor, raw) refl

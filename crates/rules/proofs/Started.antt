@@ -1,5 +1,5 @@
 -- Where start-up is finished, the basic channel's application is the USIM, if the card has one.
-use Rattle.std.proofs.Common.{◌≡◌, ◌⊎◌, inl, inr, ℕ, zero, suc, ◌+◌, ◌==◌, Bool, true, false, ◌&&◌, if◌then◌else◌, Option, Some, None, List, refl, ap, sym, ◌∙◌, subst, arith}
+use Rattle.std.proofs.Common.{◌≡◌, ◌⊎◌, inl, inr, ℕ, zero, suc, ◌+◌, ◌==◌, Bool, true, false, ◌&&◌, if◌then◌else◌, Option, Some, None, List, refl, ap, sym, ◌∙◌, subst, arith, true≢false}
 use Rattle.std.specs.Prelude.{not, nat_lt, find}
 use Rattle.std.proofs.lemmas.Bool.{and_parts, and_from, eqb-true, false≢true}
 use Rattle.apdu.specs.Values.{CommandValue, ResponseValue}
@@ -106,9 +106,10 @@ module _ (changes : List Change) (card : CardState) (c : CommandValue) (p : Card
   ended selected (Some f) step t h q = ends_by selected f step t.0 h q
 
   pub started_step : (selected : Option (List ℕ)) (o : Option Final) (step : ℕ) → FinalTied card c p.1 selected o → (is_started step ≡ true → IsStarted card) → is_started (startup_after c o step) ≡ true → IsStarted p.0
-  started_step selected o step t before q = by_end (ends_step step o) (leaves_usim c) refl refl q
+  started_step selected o step t before q = by_end (ends_step step o) (leaves_usim c) (step == startup_steps) refl refl refl q
     where
-      by_end : (a b : Bool) → ends_step step o ≡ a → leaves_usim c ≡ b → is_started (if a then step + 1 else if b then 0 else step) ≡ true → IsStarted p.0
-      by_end true b h l q = ended selected o step t h q
-      by_end false true h l q = absurd (cc)
-      by_end false false h l q = keeps_started l (basic_effect card c p changes e) (before q)
+      by_end : (a b d : Bool) → ends_step step o ≡ a → leaves_usim c ≡ b → (step == startup_steps) ≡ d → is_started (if a then step + 1 else if b && d then 0 else step) ≡ true → IsStarted p.0
+      by_end true b d h l s q = ended selected o step t h q
+      by_end false true true h l s q = absurd (cc)
+      by_end false true false h l s q = absurd (true≢false (sym q ∙ s))
+      by_end false false d h l s q = keeps_started l (basic_effect card c p changes e) (before q)

@@ -38,7 +38,7 @@ use Rattle.rules.specs.declared.kept.Kept.{Kept}
 use Rattle.rules.specs.declared.kept.Turn.{Turn}
 use Rattle.rules.specs.declared.standing.Standing.{Standing}
 use Rattle.rules.specs.History.{lives_in}
-use Rattle.link.specs.Commands.{is_at}
+use Rattle.link.specs.Commands.{continued, is_at}
 use Rattle.channels.specs.Channels.{same_channels}
 use Rattle.rules.specs.Channels.{held_numbers}
 use Rattle.rules.specs.Sessions.{lacking_key, verify_command}
@@ -47,7 +47,7 @@ use Rattle.rules.specs.Editing.{family_edit}
 use Rattle.rules.specs.Kept.{actor_count, job_of, begun_of, operation_now}
 use Rattle.rules.specs.Work.{is_quiet, is_finished, has_operations_left, waits_on}
 use Rattle.rules.specs.After.{is_raw}
-use Rattle.rules.specs.Due.{due_command, is_reset_due, due_event, due_publication, due_answer, slot_answer}
+use Rattle.rules.specs.Due.{due_command, is_reset_due, due_event, due_publication, planning_answer, due_answer, slot_answer}
 use Rattle.rules.specs.State.{view_in, shown_in, same_shown, board_after, text_of, State}
 
 -- ---- whose turn it is
@@ -144,9 +144,10 @@ abbrev pub ordered_update : World → Kept → EditTurn → Option Decided → O
 ordered_update world k e None = undecided_update world k e e.begun.editing.attempt
 ordered_update world k e (Some d) = owed_update true e.begun.editing
 
--- one in a turn, in the epoch in which the edit began, and behind no refusal of its commands
+-- one in a turn, in the epoch in which the edit began, and where its answer has no cause yet: its plan is not refused, it lacks no session
+-- for it, and no command of the turn was refused
 abbrev pub may_update : Kept → EditTurn → Bool
-may_update k e = lives_in k.history e.begun.epoch && not k.turn.updated && is_none k.turn.outcome
+may_update k e = lives_in k.history e.begun.epoch && not k.turn.updated && is_none k.turn.outcome && is_none (planning_answer k.turn.work)
 
 abbrev pub same_update : RowUpdate → RowUpdate → Bool
 same_update u v = (u.file == v.file) && ((u.row == v.row) && same_bytes u.bytes v.bytes)
@@ -204,10 +205,10 @@ abbrev pub is_outside_raw : Script → Kept → CommandValue → Bool
 is_outside_raw s k c = is_update_ins c.ins && not (has_value is_raw (turn_operation s k))
 
 abbrev pub is_update_right : Script → World → Kept → CommandValue → ResponseValue → Bool
-is_update_right s world k c r = elim (edit_turn s k) [ None ↦ false | Some e ↦ is_sent_right world k e c k.chain && is_book_right world k e c r ]
+is_update_right s world k c r = elim (edit_turn s k) [ None ↦ false | Some e ↦ is_sent_right world k e c (continued c k.chain) && is_book_right world k e c r ]
 
 abbrev pub is_lost_update_right : Script → World → World → Kept → CommandValue → Bool
-is_lost_update_right s world behind k c = elim (edit_turn s k) [ None ↦ false | Some e ↦ is_sent_right world k e c k.chain && is_lost_book_right world behind k e ]
+is_lost_update_right s world behind k c = elim (edit_turn s k) [ None ↦ false | Some e ↦ is_sent_right world k e c (continued c k.chain) && is_lost_book_right world behind k e ]
 
 abbrev pub is_done_by : Kept → ℕ → List ℕ → Begun → Option Decided → Bool
 is_done_by k n left b None = false

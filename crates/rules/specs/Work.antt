@@ -124,7 +124,7 @@ decides work = record { work = work; attempt = None }
 abbrev pub reads_first : List CachedFile → List (List ℕ) → Work
 reads_first files paths = elim (first_missing files paths) [ None ↦ rests | Some path ↦ reads path ]
 
--- the first update of a plan for which the actor has its sessions
+-- the first key that an update of the plan asks for and the actor lacks, or else an attempt
 abbrev pub begins_plan : Kept → ℕ → ℕ → Plan → List (List ℕ) → Decision
 begins_plan k actor f plan paths = elim (first_lack k.history actor k.sessions k.files f (plan_updates plan)) [
   | Some key ↦ decides (lacks key)
