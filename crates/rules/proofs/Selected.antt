@@ -4,7 +4,7 @@ use Rattle.std.specs.Prelude.{length}
 use Rattle.std.proofs.lemmas.Bool.{and_parts, and_from}
 use Rattle.std.specs.Prelude.{is_some}
 use Rattle.apdu.specs.Values.{CommandValue, ResponseValue}
-use Rattle.apdu.specs.Words.{is_between, is_one_of, path_of}
+use Rattle.apdu.specs.Words.{is_one_of, path_of}
 use Rattle.apdu.specs.Apdu.{same_response}
 use Rattle.card_model.specs.declared.world.CardState.{CardState}
 use Rattle.card_model.specs.declared.world.World.{World}
@@ -12,10 +12,10 @@ use Rattle.card_model.specs.Select.{ids_of}
 use Rattle.card_model.specs.Step.{on_card, card_inside, step}
 use Rattle.report.specs.declared.line.Line.TheVariants as line
 use Rattle.card_effects.specs.Effect.{acted, basic}
-use Rattle.card_effects.specs.Basic.{LeavesBasic, SelectsBasic, HasCurrent}
-use Rattle.card_effects.proofs.Basic.{ids_len, current_stays, current_behind}
+use Rattle.card_effects.specs.Basic.{LeavesBasic, SelectsBasic}
+use Rattle.card_effects.proofs.Basic.{ids_len, current_stays}
 use Rattle.link.specs.Commands.{is_basic_select, named_path, selection_after}
-use Rattle.link.proofs.Selections.{ids_path, now_current}
+use Rattle.link.proofs.Selections.{now_current}
 use Rattle.rules.specs.Rules.{has_right_response}
 use Rattle.rules.specs.Agreement.{IsSelected}
 use Rattle.rules.proofs.Worlds.{steps_card, Alike, response_is}

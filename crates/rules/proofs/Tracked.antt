@@ -1,13 +1,10 @@
 -- Over lines whose responses are right the kept selection is none, or what is current on the basic channel of the card in the slot.
-use Rattle.std.proofs.Common.{◌≡◌, inl, inr, ℕ, ◌==◌, ◌&&◌, Bool, true, false, if◌then◌else◌, List, [], ◌∷◌, Option, Some, None, refl, sym, ap, ◌∙◌, subst, true≢false}
-use Rattle.std.specs.Prelude.{find}
+use Rattle.std.proofs.Common.{◌≡◌, inl, inr, ℕ, ◌&&◌, Bool, true, false, List, [], ◌∷◌, Option, Some, None, refl, sym, ap, ◌∙◌, subst, true≢false}
 use Rattle.std.proofs.lemmas.Bool.{and_parts, and_from}
 use Rattle.apdu.specs.Values.{CommandValue, ResponseValue}
-use Rattle.card_model.specs.declared.world.ChannelState.{ChannelState}
 use Rattle.card_model.specs.declared.world.CardState.{CardState}
 use Rattle.card_model.specs.declared.world.World.{World}
 use Rattle.card_model.specs.declared.world.WorldEvent.TheVariants.{Arm, Out, Insert}
-use Rattle.card_model.specs.Card.{has_number}
 use Rattle.card_model.specs.Step.{on_card, card_inside, step}
 use Rattle.card_effects.proofs.Basic.{basic_effect, effect_aids}
 use Rattle.card_effects.proofs.Effects.{effect}

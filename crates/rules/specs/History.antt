@@ -4,9 +4,7 @@
 -- is a number of events. The epoch is the number of insertions and resets so far. It lives where the last of insertion, reset, removal,
 -- failed exchange and failed reset is an insertion or a reset, and a reset is owed where it is a failed exchange. An announcement is open
 -- where a status 91XX was answered in the living epoch since its last FETCH.
-use Rattle.std.specs.Prelude.{ℕ, ◌+◌, ◌%◌, ◌==◌, ◌&&◌, ◌||◌, not, Bool, true, false, if◌then◌else◌, Option, Some, None}
-use Rattle.apdu.specs.Values.{CommandValue, ResponseValue}
-use Rattle.apdu.specs.Apdu.{fetch_ins, is_announcement}
+use Rattle.std.specs.Prelude.{ℕ, ◌==◌, ◌&&◌, ◌||◌, not, Bool, true, false, if◌then◌else◌, Option, Some, None}
 use Rattle.card_model.specs.declared.world.WorldEvent.TheVariants as world_event
 use Rattle.report.specs.declared.line.Line.{Line}
 use Rattle.report.specs.declared.line.Line.TheVariants as line
