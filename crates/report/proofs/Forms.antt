@@ -1,9 +1,7 @@
 -- A line is read back from its form and the bytes of its numbers.
-use Rattle.std.proofs.Common.{◌≡◌, ◌<◌, ◌^◌, ℕ, List, ◌++◌, length, true, Option, Some, None, IfSome, refl, ap, ◌∙◌}
+use Rattle.std.proofs.Common.{◌≡◌, ◌<◌, ◌^◌, ℕ, List, ◌++◌, length, true, Option, Some, IfSome, refl, ap, ◌∙◌}
 use Rattle.std.specs.Str.{is_utf8}
-use Rattle.report.specs.declared.answer.Answer.{Answer}
 use Rattle.report.specs.declared.answer.Answer.TheVariants as answer
-use Rattle.report.specs.declared.line.Line.{Line}
 use Rattle.report.specs.declared.line.Line.TheVariants as line
 use Rattle.report.specs.declared.form.Form.TheVariants as form
 use Rattle.report.specs.declared.form.AnswerForm.TheVariants as answer_form

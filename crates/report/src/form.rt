@@ -67,64 +67,36 @@ pub(crate) enum AnswerForm {
     SlotEmpty,
     ArmFull,
     Absent,
-    EpochEnded {
-        unsure: bool,
-    },
-    Status {
-        sw: Sw,
-    },
+    EpochEnded { unsure: bool },
+    Status { sw: Sw },
     Loop,
     BadFcp,
     Loaded,
     Done,
-    NeedsPin {
-        key: u8,
-    },
-    BadFile {
-        width: u16,
-    },
-    NoRecord {
-        at: u8,
-    },
-    Full {
-        count: u8,
-    },
-    NotWritable {
-        found: char,
-    },
+    NeedsPin { key: u8 },
+    BadFile { width: u16 },
+    NoRecord { at: u8 },
+    Full { count: u8 },
+    NotWritable { found: char },
     NameTooLong,
     BadDigit,
     NumberTooLong,
-    ExtFull {
-        count: u8,
-    },
-    Opened {
-        channel: u8,
-    },
+    ExtFull { count: u8 },
+    Opened { channel: u8 },
     Exhausted,
     Raw,
-    RawRefused {
-        ins: u8,
-    },
-    NotHeldRef {
-        handle: u8,
-    },
-    NotHeldKey {
-        key: u8,
-    },
+    RawRefused { ins: u8 },
+    NotHeldRef { handle: u8 },
+    NotHeldKey { key: u8 },
     Closed,
     Verified,
     Ended,
     Polled,
     /// So many families show something or nothing.
-    Look {
-        families: u8,
-    },
+    Look { families: u8 },
     Watching,
     /// So many numbers.
-    Notices {
-        count: u8,
-    },
+    Notices { count: u8 },
 }
 
 /// The form of a line, and where its bytes stand among those of all lines.

@@ -1,4 +1,4 @@
-use Rattle.std.proofs.Common.{◌∷◌, ◌≡◌, ◌+◌, length, length-append, ap, ◌∙◌, arith}
+use Rattle.std.proofs.Common.{◌∷◌, length, length-append, ap, ◌∙◌, arith}
 use Rattle.report.specs.Kept.{kept_bytes}
 use Rattle.report.proofs.Entries.{all_kept, kept_push}
 use Rattle.report.proofs.lines.ReservedLines.push_within.Goals as goal
