@@ -1,12 +1,17 @@
 -- A line is read back from its form and the bytes of its numbers.
-use Rattle.std.proofs.Common.{◌≡◌, ◌<◌, ◌^◌, ℕ, List, ◌++◌, length, true, Option, Some, IfSome, refl, ap, ◌∙◌}
+use Rattle.std.proofs.Common.{◌≡◌, ◌<◌, ◌^◌, ◌%◌, ℕ, List, ◌++◌, length, true, false, Option, Some, IfSome, refl, ap, ◌∙◌, arith}
+use Rattle.std.specs.Prelude.{nat_lt}
 use Rattle.std.specs.Str.{is_utf8}
+use Rattle.std.specs.Char.{IsScalar}
+use Rattle.std.proofs.lemmas.Bool.Decides.{nat_tests}
+use Rattle.apdu.specs.Words.{is_between}
+use Rattle.apdu.specs.declared.status.Sw.{Sw}
 use Rattle.report.specs.declared.answer.Answer.TheVariants as answer
 use Rattle.report.specs.declared.line.Line.TheVariants as line
 use Rattle.report.specs.declared.form.Form.TheVariants as form
 use Rattle.report.specs.declared.form.AnswerForm.TheVariants as answer_form
-use Rattle.report.specs.Kept.{number_bytes, numbers_bytes, place_bytes, shown_bytes, first_number, behind_number, second_number, third_number, behind_three, first_place, behind_place, numbers_of, shown_of, look_of_shown, notices_of_numbers, published_of, answer_of, line_of}
-use Rattle.report.proofs.Words.{first_back, behind_back, sole_back, second_back, behind_both, place_back, behind_place_back}
+use Rattle.report.specs.Kept.{number_bytes, numbers_bytes, place_bytes, shown_bytes, first_number, behind_number, first_word, second_number, third_number, character, behind_three, first_place, behind_place, numbers_of, shown_of, look_of_shown, notices_of_numbers, published_of, answer_of, line_of}
+use Rattle.report.proofs.Words.{first_back, behind_back, sole_back, second_back, second_sole_back, behind_both, place_back, behind_place_back}
 
 module _ (k f e n : ℕ) (text : List ℕ) (k_fits : k < 2 ^ 64) (e_fits : e < 2 ^ 64) (n_fits : n < 2 ^ 64) where
   abbrev bytes : List ℕ
@@ -38,6 +43,26 @@ module _ (k e n : ℕ) (k_fits : k < 2 ^ 64) (e_fits : e < 2 ^ 64) (n_fits : n <
       ap (λ (m : ℕ). Some (line.EpochEnd m (second_number three) (third_number three))) (first_back k (number_bytes e ++ number_bytes n) k_fits)
       ∙ ap (λ (m : ℕ). Some (line.EpochEnd k m (third_number three))) (second_back k e (number_bytes n) e_fits)
       ∙ ap (λ (m : ℕ). Some (line.EpochEnd k e m)) third_sole
+
+word_back : (n m : ℕ) → m ≡ n → n < 2 ^ 16 → m % 0x1_0000 ≡ n
+word_back n m is fits = omega arith
+
+pub status_back : (sw : Sw) (n : ℕ) → sw.0 < 2 ^ 16 → n < 2 ^ 64 → answer_of answer_form.Status (number_bytes sw.0 ++ number_bytes n) ≡ Some (answer.Status sw n)
+status_back sw n sw_fits n_fits =
+    ap (λ (m : ℕ). Some (answer.Status (record { 0 = m }) (second_number (number_bytes sw.0 ++ number_bytes n)))) (word_back sw.0 _ (first_back sw.0 (number_bytes n) (omega arith)) sw_fits)
+    ∙ ap (λ (m : ℕ). Some (answer.Status sw m)) (second_sole_back sw.0 n n_fits)
+
+pub bad_file_back : (width : ℕ) → width < 2 ^ 16 → answer_of answer_form.BadFile (number_bytes width) ≡ Some (answer.BadFile width)
+bad_file_back width fits = ap (λ (m : ℕ). Some (answer.BadFile m)) (word_back width _ (sole_back width (omega arith)) fits)
+
+character-scalar : (c : ℕ) → IsScalar c → character c ≡ c
+character-scalar c s =
+    let no_surrogate : is_between 0xD800 0xDFFF c ≡ false = grind (arith, nat_tests) in
+    let within : nat_lt 0x10_FFFF c ≡ false = grind (arith, nat_tests) in
+    rw (no_surrogate, within) refl
+
+pub not_writable_back : (c : ℕ) → c < 2 ^ 64 → IsScalar c → answer_of answer_form.NotWritable (number_bytes c) ≡ Some (answer.NotWritable c)
+not_writable_back c fits s = ap (λ (m : ℕ). Some (answer.NotWritable (character m))) (sole_back c fits) ∙ ap (λ (m : ℕ). Some (answer.NotWritable m)) (character-scalar c s)
 
 pub done_back : (n : ℕ) (p : Option ℕ) (left : List ℕ) → n < 2 ^ 64 → IfSome p (λ k. k < 2 ^ 64) → answer_of answer_form.Done (number_bytes n ++ (place_bytes p ++ left)) ≡ Some (answer.Done n p left)
 done_back n p left n_fits p_fits =

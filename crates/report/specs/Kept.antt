@@ -1,7 +1,8 @@
 -- What is kept of a line: a form of a fixed size, and beside it the bytes of its numbers, texts, commands and responses.
-use Rattle.std.specs.Prelude.{◌≡◌, ℕ, zero, suc, ◌+◌, ◌≤◌, ◌==◌, nat_lt, Bool, if◌then◌else◌, List, [], ◌∷◌, ◌++◌, length, take, drop, map, flat_map, reverse, Option, Some, None, Result, Ok, Err, unwrap_or}
+use Rattle.std.specs.Prelude.{◌≡◌, ℕ, zero, suc, ◌+◌, ◌%◌, ◌≤◌, ◌==◌, nat_lt, Bool, ◌||◌, if◌then◌else◌, List, [], ◌∷◌, ◌++◌, length, take, drop, map, flat_map, reverse, Option, Some, None, Result, Ok, Err, unwrap_or}
 use Rattle.std.specs.Int.{Width, w16, w32, w64, to_be_bytes, from_be_bytes}
 use Rattle.std.specs.Str.{is_utf8}
+use Rattle.apdu.specs.Words.{is_between}
 use Rattle.apdu.specs.Values.{CommandValue, ResponseValue}
 use Rattle.apdu.specs.Apdu.{command_bytes, response_bytes, read_command, read_response}
 use Rattle.apdu.specs.declared.command.ApduError.{ApduError}
@@ -44,16 +45,16 @@ answer_bytes answer.SlotEmpty = []
 answer_bytes answer.ArmFull = []
 answer_bytes answer.Absent = []
 answer_bytes (answer.EpochEnded e n unsure) = number_bytes e ++ number_bytes n
-answer_bytes (answer.Status sw n) = number_bytes n
+answer_bytes (answer.Status sw n) = number_bytes sw.0 ++ number_bytes n
 answer_bytes (answer.Loop n) = number_bytes n
 answer_bytes (answer.BadFcp n) = number_bytes n
 answer_bytes (answer.Loaded k) = number_bytes k
 answer_bytes (answer.Done n k left) = number_bytes n ++ (place_bytes k ++ left)
 answer_bytes (answer.NeedsPin key) = []
-answer_bytes (answer.BadFile width) = []
+answer_bytes (answer.BadFile width) = number_bytes width
 answer_bytes (answer.NoRecord at) = []
 answer_bytes (answer.Full count) = []
-answer_bytes (answer.NotWritable found) = []
+answer_bytes (answer.NotWritable found) = number_bytes found
 answer_bytes (answer.NameTooLong need room) = number_bytes need ++ number_bytes room
 answer_bytes (answer.BadDigit at) = number_bytes at
 answer_bytes (answer.NumberTooLong count) = number_bytes count
@@ -109,6 +110,17 @@ behind_number (mark ∷ rest) =
     else if mark == 254 then behind_word 4 rest
     else if mark == 255 then behind_word 8 rest
     else rest
+
+-- the low sixteen bits of the number at the front
+abbrev pub first_word : List ℕ → ℕ
+first_word bytes = first_number bytes % 0x1_0000
+
+-- the character of a code, or U+FFFD where it has none
+abbrev pub character : ℕ → ℕ
+character code = if is_between 0xD800 0xDFFF code || nat_lt 0x10_FFFF code then 0xFFFD else code
+
+abbrev pub first_character : List ℕ → ℕ
+first_character bytes = character (first_number bytes)
 
 abbrev pub second_number : List ℕ → ℕ
 second_number bytes = first_number (behind_number bytes)
@@ -176,16 +188,16 @@ answer_of answer_form.SlotEmpty bytes = Some answer.SlotEmpty
 answer_of answer_form.ArmFull bytes = Some answer.ArmFull
 answer_of answer_form.Absent bytes = Some answer.Absent
 answer_of (answer_form.EpochEnded unsure) bytes = Some (answer.EpochEnded (first_number bytes) (second_number bytes) unsure)
-answer_of (answer_form.Status sw) bytes = Some (answer.Status sw (first_number bytes))
+answer_of answer_form.Status bytes = Some (answer.Status (record { 0 = first_word bytes }) (second_number bytes))
 answer_of answer_form.Loop bytes = Some (answer.Loop (first_number bytes))
 answer_of answer_form.BadFcp bytes = Some (answer.BadFcp (first_number bytes))
 answer_of answer_form.Loaded bytes = Some (answer.Loaded (first_number bytes))
 answer_of answer_form.Done bytes = Some (done_of bytes)
 answer_of (answer_form.NeedsPin key) bytes = Some (answer.NeedsPin key)
-answer_of (answer_form.BadFile width) bytes = Some (answer.BadFile width)
+answer_of answer_form.BadFile bytes = Some (answer.BadFile (first_word bytes))
 answer_of (answer_form.NoRecord at) bytes = Some (answer.NoRecord at)
 answer_of (answer_form.Full count) bytes = Some (answer.Full count)
-answer_of (answer_form.NotWritable found) bytes = Some (answer.NotWritable found)
+answer_of answer_form.NotWritable bytes = Some (answer.NotWritable (first_character bytes))
 answer_of answer_form.NameTooLong bytes = Some (answer.NameTooLong (first_number bytes) (second_number bytes))
 answer_of answer_form.BadDigit bytes = Some (answer.BadDigit (first_number bytes))
 answer_of answer_form.NumberTooLong bytes = Some (answer.NumberTooLong (first_number bytes))
@@ -243,7 +255,7 @@ line_of (form.World a e) bytes = Some (line.World a e)
 line_of (form.Published f) bytes = published_of (first_number bytes) f (second_number bytes) (third_number bytes) (behind_three bytes)
 line_of form.EpochEnd bytes = Some (epoch_end_of bytes)
 line_of (form.Refused f) bytes = Some (line.Refused f (first_number bytes))
-line_of (form.Answered a i given) bytes = answered_of a i (answer_of given bytes)
+line_of (form.Answered a given i) bytes = answered_of a i (answer_of given bytes)
 
 -- ---- the lines of all entries
 

@@ -6,8 +6,8 @@ ghost use Rattle.report.specs.Kept as spec;
 ghost use Rattle.report.specs.Room.{most_kept, most_of_answer};
 
 use crate::numbers::{
-    first_number, keep_number, keep_numbers, keep_place, keep_shown, keep_two, numbers_of,
-    shown_of, take_number, take_place, take_two,
+    first_number, first_word, keep_number, keep_numbers, keep_place, keep_shown, keep_two,
+    numbers_of, shown_of, take_number, take_place, take_two,
 };
 use crate::{Answer, Line, Seen};
 use apdu::{Bytes, Command, Memory, Reserved, Response, Sw, Text};
@@ -54,8 +54,8 @@ pub(crate) enum Form {
     },
     Answered {
         actor: u8,
-        op: u32,
         answer: AnswerForm,
+        op: u32,
     },
 }
 
@@ -68,16 +68,16 @@ pub(crate) enum AnswerForm {
     ArmFull,
     Absent,
     EpochEnded { unsure: bool },
-    Status { sw: Sw },
+    Status,
     Loop,
     BadFcp,
     Loaded,
     Done,
     NeedsPin { key: u8 },
-    BadFile { width: u16 },
+    BadFile,
     NoRecord { at: u8 },
     Full { count: u8 },
-    NotWritable { found: char },
+    NotWritable,
     NameTooLong,
     BadDigit,
     NumberTooLong,
@@ -107,7 +107,7 @@ pub(crate) struct Entry {
     pub(crate) form: Form,
 }
 
-const _: () = prove!(size_of::<Entry>() == 32);
+const _: () = prove!(size_of::<Entry>() == 24);
 
 fn most_of_answer(answer: &Answer) -> Option<usize>
     ensures { IfSome result (λ most. most ≡ most_of_answer answer.now) }
@@ -280,6 +280,40 @@ fn keep_response(response: &Response, bytes: &mut Reserved<u8>) -> AnswerForm
     AnswerForm::Raw
 }
 
+fn keep_status(sw: Sw, event: u64, bytes: &mut Reserved<u8>) -> AnswerForm
+    requires { 18 ≤ bytes.old.spare }
+    ensures bytes { bytes.new.items ≡
+        bytes.old.items ++ (spec.number_bytes sw.0 ++ spec.number_bytes event) }
+    ensures spare { bytes.old.spare ≤ bytes.new.spare + 18 }
+    ensures back { spec.answer_of result (spec.number_bytes sw.0 ++ spec.number_bytes event)
+        ≡ Some (Answer.Status sw event) }
+{
+    keep_two(u64::from(sw.0), event, bytes);
+    AnswerForm::Status
+}
+
+fn keep_bad_file(width: u16, bytes: &mut Reserved<u8>) -> AnswerForm
+    requires { 9 ≤ bytes.old.spare }
+    ensures bytes { bytes.new.items ≡ bytes.old.items ++ spec.number_bytes width }
+    ensures spare { bytes.old.spare ≤ bytes.new.spare + 9 }
+    ensures back { spec.answer_of result (spec.number_bytes width)
+        ≡ Some (Answer.BadFile width) }
+{
+    keep_number(u64::from(width), bytes);
+    AnswerForm::BadFile
+}
+
+fn keep_not_writable(found: char, bytes: &mut Reserved<u8>) -> AnswerForm
+    requires { 9 ≤ bytes.old.spare }
+    ensures bytes { bytes.new.items ≡ bytes.old.items ++ spec.number_bytes found }
+    ensures spare { bytes.old.spare ≤ bytes.new.spare + 9 }
+    ensures back { spec.answer_of result (spec.number_bytes found)
+        ≡ Some (Answer.NotWritable found) }
+{
+    keep_number(u64::from(found), bytes);
+    AnswerForm::NotWritable
+}
+
 fn keep_done(
     event: u64,
     publication: Option<u64>,
@@ -353,10 +387,7 @@ fn keep_answer(answer: &Answer, bytes: &mut Reserved<u8>) -> AnswerForm
             keep_two(*epoch, *event, bytes);
             AnswerForm::EpochEnded { unsure: *unsure }
         }
-        Answer::Status { sw, event } => {
-            keep_number(*event, bytes);
-            AnswerForm::Status { sw: *sw }
-        }
+        Answer::Status { sw, event } => keep_status(*sw, *event, bytes),
         Answer::Loop { event } => {
             keep_number(*event, bytes);
             AnswerForm::Loop
@@ -375,10 +406,10 @@ fn keep_answer(answer: &Answer, bytes: &mut Reserved<u8>) -> AnswerForm
             left,
         } => keep_done(*event, *publication, left.as_slice(), bytes),
         Answer::NeedsPin { key } => AnswerForm::NeedsPin { key: *key },
-        Answer::BadFile { width } => AnswerForm::BadFile { width: *width },
+        Answer::BadFile { width } => keep_bad_file(*width, bytes),
         Answer::NoRecord { at } => AnswerForm::NoRecord { at: *at },
         Answer::Full { count } => AnswerForm::Full { count: *count },
-        Answer::NotWritable { found } => AnswerForm::NotWritable { found: *found },
+        Answer::NotWritable { found } => keep_not_writable(*found, bytes),
         Answer::NameTooLong { need, room } => {
             keep_two(*need as u64, *room as u64, bytes);
             AnswerForm::NameTooLong
@@ -515,6 +546,27 @@ fn answered_of(
     Ok(Some(Line::Answered { actor, op, answer }))
 }
 
+fn status_of(bytes: &[u8]) -> Answer
+    ensures { result ≡ Answer.Status (record { 0 = spec.first_word bytes.now })
+        (spec.second_number bytes.now) }
+{
+    let (_, event, _) = take_two(bytes);
+    Answer::Status {
+        sw: Sw(first_word(bytes)),
+        event,
+    }
+}
+
+/// The character of a code, or U+FFFD where it has none.
+fn character(code: u64) -> char
+    ensures { result ≡ spec.character code }
+{
+    if code > 0x10_FFFF {
+        return char::REPLACEMENT_CHARACTER;
+    }
+    char::from_u32(code as u32).unwrap_or(char::REPLACEMENT_CHARACTER)
+}
+
 fn done_of(alloc: Global, bytes: &[u8]) -> Result<Answer, Memory>
     ensures { IfOk result (λ answer. answer ≡ spec.done_of bytes.now) }
 {
@@ -570,10 +622,7 @@ fn answer_of(alloc: Global, form: AnswerForm, bytes: &[u8]) -> Result<Option<Ans
                 unsure,
             })
         }
-        AnswerForm::Status { sw } => Some(Answer::Status {
-            sw,
-            event: first_number(bytes),
-        }),
+        AnswerForm::Status => Some(status_of(bytes)),
         AnswerForm::Loop => Some(Answer::Loop {
             event: first_number(bytes),
         }),
@@ -585,10 +634,14 @@ fn answer_of(alloc: Global, form: AnswerForm, bytes: &[u8]) -> Result<Option<Ans
         }),
         AnswerForm::Done => Some(done_of(alloc, bytes)?),
         AnswerForm::NeedsPin { key } => Some(Answer::NeedsPin { key }),
-        AnswerForm::BadFile { width } => Some(Answer::BadFile { width }),
+        AnswerForm::BadFile => Some(Answer::BadFile {
+            width: first_word(bytes),
+        }),
         AnswerForm::NoRecord { at } => Some(Answer::NoRecord { at }),
         AnswerForm::Full { count } => Some(Answer::Full { count }),
-        AnswerForm::NotWritable { found } => Some(Answer::NotWritable { found }),
+        AnswerForm::NotWritable => Some(Answer::NotWritable {
+            found: character(first_number(bytes)),
+        }),
         AnswerForm::NameTooLong => {
             let (need, room, _) = take_two(bytes);
             Some(Answer::NameTooLong {

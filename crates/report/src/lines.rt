@@ -110,7 +110,7 @@ impl ReservedLines {
     }
 }
 
-/// The lines of a run. Contracts see them with the newest first. Of a line its bytes are kept and 32 more, so lines are
+/// The lines of a run. Contracts see them with the newest first. Of a line its bytes are kept and 24 more, so lines are
 /// handed out by value.
 #[derive(Drop)]
 pub struct Lines {

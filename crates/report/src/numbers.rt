@@ -99,6 +99,12 @@ pub(crate) fn first_number(bytes: &[u8]) -> u64
     number
 }
 
+pub(crate) fn first_word(bytes: &[u8]) -> u16
+    ensures { result ≡ spec.first_word bytes.now }
+{
+    (first_number(bytes) % 0x1_0000) as u16
+}
+
 /// The two numbers at the front, and the bytes behind them.
 pub(crate) fn take_two(bytes: &[u8]) -> (u64, u64, &[u8])
     ensures first { result.0 ≡ spec.first_number bytes.now }
