@@ -10,7 +10,7 @@ use Rattle.report.specs.declared.answer.Answer.TheVariants as answer
 use Rattle.report.specs.declared.line.Line.TheVariants as line
 use Rattle.report.specs.declared.form.Form.TheVariants as form
 use Rattle.report.specs.declared.form.AnswerForm.TheVariants as answer_form
-use Rattle.report.specs.Kept.{number_bytes, numbers_bytes, place_bytes, shown_bytes, first_number, behind_number, first_word, second_number, third_number, character, behind_three, first_place, behind_place, numbers_of, shown_of, look_of_shown, notices_of_numbers, published_of, answer_of, line_of}
+use Rattle.report.specs.Kept.{number_bytes, numbers_bytes, place_bytes, shown_bytes, first_number, behind_number, second_number, third_number, character, behind_three, first_place, behind_place, numbers_of, shown_of, look_of_shown, notices_of_numbers, published_of, answer_of, line_of}
 use Rattle.report.proofs.Words.{first_back, behind_back, sole_back, second_back, second_sole_back, behind_both, place_back, behind_place_back}
 
 module _ (k f e n : ℕ) (text : List ℕ) (k_fits : k < 2 ^ 64) (e_fits : e < 2 ^ 64) (n_fits : n < 2 ^ 64) where
