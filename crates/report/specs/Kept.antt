@@ -1,7 +1,8 @@
--- What is kept of a line: a form of a fixed size, and beside it the bytes of its texts, commands, responses and numbers.
-use Rattle.std.specs.Prelude.{◌≡◌, ℕ, ◌+◌, ◌≤◌, ◌==◌, nat_le, nat_lt, Bool, if◌then◌else◌, List, [], ◌∷◌, ◌++◌, length, take, drop, map, flat_map, reverse, Option, Some, None, Result, Ok, Err, unwrap_or}
-use Rattle.std.specs.Int.{w64, to_be_bytes, from_be_bytes}
+-- What is kept of a line: a form of a fixed size, and beside it the bytes of its numbers, texts, commands and responses.
+use Rattle.std.specs.Prelude.{◌≡◌, ℕ, zero, suc, ◌+◌, ◌%◌, ◌≤◌, ◌==◌, nat_lt, Bool, ◌||◌, if◌then◌else◌, List, [], ◌∷◌, ◌++◌, length, take, drop, map, flat_map, reverse, Option, Some, None, Result, Ok, Err, unwrap_or}
+use Rattle.std.specs.Int.{Width, w16, w32, w64, to_be_bytes, from_be_bytes}
 use Rattle.std.specs.Str.{is_utf8}
+use Rattle.apdu.specs.Words.{is_between}
 use Rattle.apdu.specs.Values.{CommandValue, ResponseValue}
 use Rattle.apdu.specs.Apdu.{command_bytes, response_bytes, read_command, read_response}
 use Rattle.apdu.specs.declared.command.ApduError.{ApduError}
@@ -15,15 +16,22 @@ use Rattle.report.specs.declared.form.AnswerForm.{AnswerForm}
 use Rattle.report.specs.declared.form.AnswerForm.TheVariants as answer_form
 use Rattle.report.specs.declared.form.Entry.{Entry}
 
--- ---- numbers, eight bytes to each with the high one first
+-- ---- numbers: one byte below 253, and else a mark and two, four or eight bytes with the high one first
+
+unfoldable pub number_bytes : ℕ → List ℕ
+number_bytes n =
+    if nat_lt n 253 then n ∷ []
+    else if nat_lt n 0x1_0000 then 253 ∷ to_be_bytes w16 n
+    else if nat_lt n 0x1_0000_0000 then 254 ∷ to_be_bytes w32 n
+    else 255 ∷ to_be_bytes w64 n
 
 abbrev pub numbers_bytes : List ℕ → List ℕ
-numbers_bytes numbers = flat_map (to_be_bytes w64) numbers
+numbers_bytes numbers = flat_map number_bytes numbers
 
--- the number that a family shows behind a byte 1, or nine bytes 0
+-- a byte 1 and a number, or a byte 0 for none
 abbrev pub place_bytes : Option ℕ → List ℕ
-place_bytes None = 0 ∷ to_be_bytes w64 0
-place_bytes (Some n) = 1 ∷ to_be_bytes w64 n
+place_bytes None = 0 ∷ []
+place_bytes (Some n) = 1 ∷ number_bytes n
 
 abbrev pub shown_bytes : List (Option ℕ) → List ℕ
 shown_bytes shown = flat_map place_bytes shown
@@ -36,23 +44,23 @@ answer_bytes answer.SlotFull = []
 answer_bytes answer.SlotEmpty = []
 answer_bytes answer.ArmFull = []
 answer_bytes answer.Absent = []
-answer_bytes (answer.EpochEnded e n unsure) = []
-answer_bytes (answer.Status sw n) = []
-answer_bytes (answer.Loop n) = []
-answer_bytes (answer.BadFcp n) = []
-answer_bytes (answer.Loaded k) = []
-answer_bytes (answer.Done n k left) = left
+answer_bytes (answer.EpochEnded e n unsure) = number_bytes e ++ number_bytes n
+answer_bytes (answer.Status sw n) = number_bytes sw.0 ++ number_bytes n
+answer_bytes (answer.Loop n) = number_bytes n
+answer_bytes (answer.BadFcp n) = number_bytes n
+answer_bytes (answer.Loaded k) = number_bytes k
+answer_bytes (answer.Done n k left) = number_bytes n ++ (place_bytes k ++ left)
 answer_bytes (answer.NeedsPin key) = []
-answer_bytes (answer.BadFile width) = []
+answer_bytes (answer.BadFile width) = number_bytes width
 answer_bytes (answer.NoRecord at) = []
 answer_bytes (answer.Full count) = []
-answer_bytes (answer.NotWritable found) = []
-answer_bytes (answer.NameTooLong need room) = []
-answer_bytes (answer.BadDigit at) = []
-answer_bytes (answer.NumberTooLong count) = []
+answer_bytes (answer.NotWritable found) = number_bytes found
+answer_bytes (answer.NameTooLong need room) = number_bytes need ++ number_bytes room
+answer_bytes (answer.BadDigit at) = number_bytes at
+answer_bytes (answer.NumberTooLong count) = number_bytes count
 answer_bytes (answer.ExtFull count) = []
 answer_bytes (answer.Opened channel) = []
-answer_bytes (answer.Exhausted n) = []
+answer_bytes (answer.Exhausted n) = number_bytes n
 answer_bytes (answer.Raw r) = response_bytes r
 answer_bytes (answer.RawRefused ins) = []
 answer_bytes (answer.NotHeldRef handle) = []
@@ -61,9 +69,9 @@ answer_bytes answer.Closed = []
 answer_bytes answer.Verified = []
 answer_bytes answer.Ended = []
 answer_bytes answer.Polled = []
-answer_bytes (answer.Look seen) = shown_bytes seen.shown
+answer_bytes (answer.Look seen) = number_bytes seen.count ++ shown_bytes seen.shown
 answer_bytes answer.Watching = []
-answer_bytes (answer.Notices dropped numbers) = numbers_bytes numbers.items
+answer_bytes (answer.Notices dropped numbers) = number_bytes dropped ++ numbers_bytes numbers.items
 
 abbrev pub kept_bytes : Line → List ℕ
 kept_bytes (line.Turn a) = []
@@ -73,39 +81,84 @@ kept_bytes (line.Failed a c acted) = command_bytes c
 kept_bytes (line.Reset a) = []
 kept_bytes (line.ResetFailed a) = []
 kept_bytes (line.World a e) = []
-kept_bytes (line.Published k f e n text) = text
-kept_bytes (line.EpochEnd k e n) = []
-kept_bytes (line.Refused f n) = []
+kept_bytes (line.Published k f e n text) = number_bytes k ++ (number_bytes e ++ (number_bytes n ++ text))
+kept_bytes (line.EpochEnd k e n) = number_bytes k ++ (number_bytes e ++ number_bytes n)
+kept_bytes (line.Refused f n) = number_bytes n
 kept_bytes (line.Answered a i given) = answer_bytes given
 
 -- ---- numbers read back
 
-abbrev pub words_of : List ℕ → List ℕ
-words_of (a ∷ b ∷ c ∷ d ∷ e ∷ f ∷ g ∷ h ∷ rest) = from_be_bytes w64 (a ∷ b ∷ c ∷ d ∷ e ∷ f ∷ g ∷ h ∷ []) ∷ words_of rest
-words_of bytes = []
+-- a word of so many bytes at the front, or 0 where they are fewer
+abbrev pub word : Width → ℕ → List ℕ → ℕ
+word w len bytes = if nat_lt (length bytes) len then 0 else from_be_bytes w (take len bytes)
 
-abbrev pub place_of : ℕ → ℕ → Option ℕ
-place_of flag n = if flag == 0 then None else Some n
+abbrev pub behind_word : ℕ → List ℕ → List ℕ
+behind_word len bytes = if nat_lt (length bytes) len then bytes else drop len bytes
 
-abbrev pub places_of : List ℕ → List (Option ℕ)
-places_of (flag ∷ a ∷ b ∷ c ∷ d ∷ e ∷ f ∷ g ∷ h ∷ rest) = place_of flag (from_be_bytes w64 (a ∷ b ∷ c ∷ d ∷ e ∷ f ∷ g ∷ h ∷ [])) ∷ places_of rest
-places_of bytes = []
+unfoldable pub first_number : List ℕ → ℕ
+first_number [] = 0
+first_number (mark ∷ rest) =
+    if mark == 253 then word w16 2 rest
+    else if mark == 254 then word w32 4 rest
+    else if mark == 255 then word w64 8 rest
+    else mark
 
--- a list, unless it is longer
-abbrev pub up_to : {A : Type 0} → ℕ → List A → Option (List A)
-up_to most xs = if nat_le (length xs) most then Some xs else None
+unfoldable pub behind_number : List ℕ → List ℕ
+behind_number [] = []
+behind_number (mark ∷ rest) =
+    if mark == 253 then behind_word 2 rest
+    else if mark == 254 then behind_word 4 rest
+    else if mark == 255 then behind_word 8 rest
+    else rest
 
-abbrev pub numbers_of : List ℕ → Option (List ℕ)
-numbers_of bytes = up_to 64 (words_of bytes)
+-- the low sixteen bits of the number at the front
+abbrev pub first_word : List ℕ → ℕ
+first_word bytes = first_number bytes % 0x1_0000
 
-abbrev pub shown_of : List ℕ → Option (List (Option ℕ))
-shown_of bytes = up_to 8 (places_of bytes)
+-- the character of a code, or U+FFFD where it has none
+abbrev pub character : ℕ → ℕ
+character code = if is_between 0xD800 0xDFFF code || nat_lt 0x10_FFFF code then 0xFFFD else code
+
+abbrev pub first_character : List ℕ → ℕ
+first_character bytes = character (first_number bytes)
+
+abbrev pub second_number : List ℕ → ℕ
+second_number bytes = first_number (behind_number bytes)
+
+abbrev pub third_number : List ℕ → ℕ
+third_number bytes = first_number (behind_number (behind_number bytes))
+
+abbrev pub behind_three : List ℕ → List ℕ
+behind_three bytes = behind_number (behind_number (behind_number bytes))
+
+abbrev pub first_place : List ℕ → Option ℕ
+first_place [] = None
+first_place (flag ∷ rest) = if flag == 0 then None else Some (first_number rest)
+
+abbrev pub behind_place : List ℕ → List ℕ
+behind_place [] = []
+behind_place (flag ∷ rest) = if flag == 0 then rest else behind_number rest
+
+abbrev pub words_of : ℕ → List ℕ → List ℕ
+words_of zero bytes = []
+words_of (suc count) bytes = first_number bytes ∷ words_of count (behind_number bytes)
+
+abbrev pub places_of : ℕ → List ℕ → List (Option ℕ)
+places_of zero bytes = []
+places_of (suc count) bytes = first_place bytes ∷ places_of count (behind_place bytes)
+
+-- so many numbers, at most as many as an answer has
+abbrev pub numbers_of : ℕ → List ℕ → Option (List ℕ)
+numbers_of count bytes = if nat_lt 64 count then None else Some (words_of count bytes)
+
+-- what so many families show, at most as many as a look has
+abbrev pub shown_of : ℕ → List ℕ → Option (List (Option ℕ))
+shown_of families bytes = if nat_lt 8 families then None else Some (places_of families bytes)
 
 -- ---- a line read back from its form and its bytes
 
-abbrev pub done_form : ℕ → Option ℕ → AnswerForm
-done_form n None = answer_form.Done n
-done_form n (Some k) = answer_form.DonePublished n k
+abbrev pub done_of : List ℕ → Answer
+done_of bytes = answer.Done (first_number bytes) (first_place (behind_number bytes)) (behind_place (behind_number bytes))
 
 abbrev pub raw_of_read : Result ResponseValue ApduError → Option Answer
 raw_of_read (Ok r) = Some (answer.Raw r)
@@ -119,14 +172,14 @@ look_of_shown count None = None
 look_of_shown count (Some shown) = Some (answer.Look (record { count = count; shown = shown }))
 
 abbrev pub look_of : ℕ → List ℕ → Option Answer
-look_of count bytes = look_of_shown count (shown_of bytes)
+look_of families bytes = look_of_shown (first_number bytes) (shown_of families (behind_number bytes))
 
 abbrev pub notices_of_numbers : ℕ → Option (List ℕ) → Option Answer
 notices_of_numbers dropped None = None
 notices_of_numbers dropped (Some numbers) = Some (answer.Notices dropped (record { items = numbers }))
 
 abbrev pub notices_of : ℕ → List ℕ → Option Answer
-notices_of dropped bytes = notices_of_numbers dropped (numbers_of bytes)
+notices_of count bytes = notices_of_numbers (first_number bytes) (numbers_of count (behind_number bytes))
 
 abbrev pub answer_of : AnswerForm → List ℕ → Option Answer
 answer_of answer_form.Moved bytes = Some answer.Moved
@@ -134,24 +187,23 @@ answer_of answer_form.SlotFull bytes = Some answer.SlotFull
 answer_of answer_form.SlotEmpty bytes = Some answer.SlotEmpty
 answer_of answer_form.ArmFull bytes = Some answer.ArmFull
 answer_of answer_form.Absent bytes = Some answer.Absent
-answer_of (answer_form.EpochEnded unsure e n) bytes = Some (answer.EpochEnded e n unsure)
-answer_of (answer_form.Status sw n) bytes = Some (answer.Status sw n)
-answer_of (answer_form.Loop n) bytes = Some (answer.Loop n)
-answer_of (answer_form.BadFcp n) bytes = Some (answer.BadFcp n)
-answer_of (answer_form.Loaded k) bytes = Some (answer.Loaded k)
-answer_of (answer_form.Done n) bytes = Some (answer.Done n None bytes)
-answer_of (answer_form.DonePublished n k) bytes = Some (answer.Done n (Some k) bytes)
+answer_of (answer_form.EpochEnded unsure) bytes = Some (answer.EpochEnded (first_number bytes) (second_number bytes) unsure)
+answer_of answer_form.Status bytes = Some (answer.Status (record { 0 = first_word bytes }) (second_number bytes))
+answer_of answer_form.Loop bytes = Some (answer.Loop (first_number bytes))
+answer_of answer_form.BadFcp bytes = Some (answer.BadFcp (first_number bytes))
+answer_of answer_form.Loaded bytes = Some (answer.Loaded (first_number bytes))
+answer_of answer_form.Done bytes = Some (done_of bytes)
 answer_of (answer_form.NeedsPin key) bytes = Some (answer.NeedsPin key)
-answer_of (answer_form.BadFile width) bytes = Some (answer.BadFile width)
+answer_of answer_form.BadFile bytes = Some (answer.BadFile (first_word bytes))
 answer_of (answer_form.NoRecord at) bytes = Some (answer.NoRecord at)
 answer_of (answer_form.Full count) bytes = Some (answer.Full count)
-answer_of (answer_form.NotWritable found) bytes = Some (answer.NotWritable found)
-answer_of (answer_form.NameTooLong need room) bytes = Some (answer.NameTooLong need room)
-answer_of (answer_form.BadDigit at) bytes = Some (answer.BadDigit at)
-answer_of (answer_form.NumberTooLong count) bytes = Some (answer.NumberTooLong count)
+answer_of answer_form.NotWritable bytes = Some (answer.NotWritable (first_character bytes))
+answer_of answer_form.NameTooLong bytes = Some (answer.NameTooLong (first_number bytes) (second_number bytes))
+answer_of answer_form.BadDigit bytes = Some (answer.BadDigit (first_number bytes))
+answer_of answer_form.NumberTooLong bytes = Some (answer.NumberTooLong (first_number bytes))
 answer_of (answer_form.ExtFull count) bytes = Some (answer.ExtFull count)
 answer_of (answer_form.Opened channel) bytes = Some (answer.Opened channel)
-answer_of (answer_form.Exhausted n) bytes = Some (answer.Exhausted n)
+answer_of answer_form.Exhausted bytes = Some (answer.Exhausted (first_number bytes))
 answer_of answer_form.Raw bytes = raw_of bytes
 answer_of (answer_form.RawRefused ins) bytes = Some (answer.RawRefused ins)
 answer_of (answer_form.NotHeldRef handle) bytes = Some (answer.NotHeldRef handle)
@@ -160,9 +212,9 @@ answer_of answer_form.Closed bytes = Some answer.Closed
 answer_of answer_form.Verified bytes = Some answer.Verified
 answer_of answer_form.Ended bytes = Some answer.Ended
 answer_of answer_form.Polled bytes = Some answer.Polled
-answer_of (answer_form.Look count) bytes = look_of count bytes
+answer_of (answer_form.Look families) bytes = look_of families bytes
 answer_of answer_form.Watching bytes = Some answer.Watching
-answer_of (answer_form.Notices dropped) bytes = notices_of dropped bytes
+answer_of (answer_form.Notices count) bytes = notices_of count bytes
 
 abbrev pub answered_of : ℕ → ℕ → Option Answer → Option Line
 answered_of a i None = None
@@ -189,6 +241,9 @@ failed_of a acted bytes = failed_of_read a acted (read_command bytes)
 abbrev pub published_of : ℕ → ℕ → ℕ → ℕ → List ℕ → Option Line
 published_of k f e n bytes = if is_utf8 bytes then Some (line.Published k f e n bytes) else None
 
+abbrev pub epoch_end_of : List ℕ → Line
+epoch_end_of bytes = line.EpochEnd (first_number bytes) (second_number bytes) (third_number bytes)
+
 abbrev pub line_of : Form → List ℕ → Option Line
 line_of (form.Turn a) bytes = Some (line.Turn a)
 line_of (form.Begin a i) bytes = Some (line.Begin a i)
@@ -197,10 +252,10 @@ line_of (form.Failed a acted) bytes = failed_of a acted bytes
 line_of (form.Reset a) bytes = Some (line.Reset a)
 line_of (form.ResetFailed a) bytes = Some (line.ResetFailed a)
 line_of (form.World a e) bytes = Some (line.World a e)
-line_of (form.Published f k e n) bytes = published_of k f e n bytes
-line_of (form.EpochEnd k e n) bytes = Some (line.EpochEnd k e n)
-line_of (form.Refused f n) bytes = Some (line.Refused f n)
-line_of (form.Answered a i given) bytes = answered_of a i (answer_of given bytes)
+line_of (form.Published f) bytes = published_of (first_number bytes) f (second_number bytes) (third_number bytes) (behind_three bytes)
+line_of form.EpochEnd bytes = Some (epoch_end_of bytes)
+line_of (form.Refused f) bytes = Some (line.Refused f (first_number bytes))
+line_of (form.Answered a given i) bytes = answered_of a i (answer_of given bytes)
 
 -- ---- the lines of all entries
 

@@ -18,7 +18,7 @@ abbrev pub most_of_answer : Answer → ℕ
 most_of_answer (answer.Done n k left) = 32 + length left
 most_of_answer (answer.Raw r) = 290
 most_of_answer (answer.Look seen) = 104
-most_of_answer (answer.Notices dropped numbers) = 544
+most_of_answer (answer.Notices dropped numbers) = 608
 most_of_answer given = 32
 
 -- a command (261 bytes at most) and a response, a text

@@ -1,11 +1,14 @@
-// What is kept of a line: a form of a fixed size, and the bytes of its texts, commands, responses and numbers.
-ghost use Rattle.std.specs.Prelude.{◌≡◌, ◌≤◌, ◌+◌, ◌++◌, length, true, Some, IfOk};
+// What is kept of a line: a form of a fixed size, and the bytes of its numbers, texts, commands and responses.
+ghost use Rattle.std.specs.Prelude.{◌≡◌, ◌≤◌, ◌+◌, ◌++◌, length, true, Some, IfOk, IfSome};
 ghost use Rattle.std.specs.Str.{is_utf8};
 ghost use Rattle.apdu.specs.Apdu.{command_bytes, response_bytes, read_command, read_response};
 ghost use Rattle.report.specs.Kept as spec;
 ghost use Rattle.report.specs.Room.{most_kept, most_of_answer};
 
-use crate::numbers::{keep_numbers, keep_shown, numbers_of, shown_of};
+use crate::numbers::{
+    first_number, first_word, keep_number, keep_numbers, keep_place, keep_shown, keep_two,
+    numbers_of, shown_of, take_number, take_place, take_two,
+};
 use crate::{Answer, Line, Seen};
 use apdu::{Bytes, Command, Memory, Reserved, Response, Sw, Text};
 use card_model::WorldEvent;
@@ -44,23 +47,15 @@ pub(crate) enum Form {
     },
     Published {
         family: u8,
-        number: u64,
-        epoch: u64,
-        point: u64,
     },
-    EpochEnd {
-        number: u64,
-        epoch: u64,
-        event: u64,
-    },
+    EpochEnd,
     Refused {
         family: u8,
-        event: u64,
     },
     Answered {
         actor: u8,
-        op: u32,
         answer: AnswerForm,
+        op: u32,
     },
 }
 
@@ -72,86 +67,36 @@ pub(crate) enum AnswerForm {
     SlotEmpty,
     ArmFull,
     Absent,
-    EpochEnded {
-        unsure: bool,
-        epoch: u64,
-        event: u64,
-    },
-    Status {
-        sw: Sw,
-        event: u64,
-    },
-    Loop {
-        event: u64,
-    },
-    BadFcp {
-        event: u64,
-    },
-    Loaded {
-        publication: u64,
-    },
-    Done {
-        event: u64,
-    },
-    DonePublished {
-        event: u64,
-        publication: u64,
-    },
-    NeedsPin {
-        key: u8,
-    },
-    BadFile {
-        width: u16,
-    },
-    NoRecord {
-        at: u8,
-    },
-    Full {
-        count: u8,
-    },
-    NotWritable {
-        found: char,
-    },
-    NameTooLong {
-        need: usize,
-        room: usize,
-    },
-    BadDigit {
-        at: usize,
-    },
-    NumberTooLong {
-        count: usize,
-    },
-    ExtFull {
-        count: u8,
-    },
-    Opened {
-        channel: u8,
-    },
-    Exhausted {
-        event: u64,
-    },
+    EpochEnded { unsure: bool },
+    Status,
+    Loop,
+    BadFcp,
+    Loaded,
+    Done,
+    NeedsPin { key: u8 },
+    BadFile,
+    NoRecord { at: u8 },
+    Full { count: u8 },
+    NotWritable,
+    NameTooLong,
+    BadDigit,
+    NumberTooLong,
+    ExtFull { count: u8 },
+    Opened { channel: u8 },
+    Exhausted,
     Raw,
-    RawRefused {
-        ins: u8,
-    },
-    NotHeldRef {
-        handle: u8,
-    },
-    NotHeldKey {
-        key: u8,
-    },
+    RawRefused { ins: u8 },
+    NotHeldRef { handle: u8 },
+    NotHeldKey { key: u8 },
     Closed,
     Verified,
     Ended,
     Polled,
-    Look {
-        count: u64,
-    },
+    /// So many families show something or nothing.
+    Look { families: u8 },
     Watching,
-    Notices {
-        dropped: u64,
-    },
+    /// So many numbers.
+    Notices { count: u8 },
 }
 
 /// The form of a line, and where its bytes stand among those of all lines.
@@ -162,54 +107,40 @@ pub(crate) struct Entry {
     pub(crate) form: Form,
 }
 
-const _: () = prove!(size_of::<Entry>() == 48);
+const _: () = prove!(size_of::<Entry>() == 24);
 
-#[tactic(auto, using(crate::proofs::Words::length_numbers_bytes, crate::proofs::Words::length_shown_bytes))]
-fn answer_len(answer: &Answer) -> usize
-    ensures value { result ≡ length (spec.answer_bytes answer.now) }
-    ensures most { result ≤ most_of_answer answer.now }
+fn most_of_answer(answer: &Answer) -> Option<usize>
+    ensures { IfSome result (λ most. most ≡ most_of_answer answer.now) }
 {
     match answer {
-        Answer::Done { left, .. } => left.as_slice().len(),
-        Answer::Raw { response } => response.write().len(),
-        Answer::Look { seen } => 9 * seen.shown.len(),
-        Answer::Notices { numbers, .. } => 8 * numbers.len(),
-        _ => 0,
+        Answer::Done { left, .. } => left.as_slice().len().checked_add(32),
+        Answer::Raw { .. } => Some(290),
+        Answer::Look { .. } => Some(104),
+        Answer::Notices { .. } => Some(608),
+        _ => Some(32),
     }
 }
 
-fn exchange_len(command: &Command, response: &Response) -> usize
-    ensures value { result ≡ length (command_bytes command.now ++ response_bytes response.now) }
-    ensures most { result ≤ 519 }
-{
-    command.write().len() + response.write().len()
-}
-
 impl Line {
-    /// How many bytes are kept of the line.
-    pub(crate) fn kept_len(&self) -> usize
-        ensures value { result ≡ length (spec.kept_bytes self.now) }
-        ensures most { result ≤ most_kept self.now }
+    /// How many bytes are enough for the line, where a `usize` can say it.
+    pub(crate) fn most_kept(&self) -> Option<usize>
+        ensures { IfSome result (λ most. most ≡ most_kept self.now) }
     {
         match self {
-            Line::Exchange {
-                command,
-                response,
-                ..
-            } => exchange_len(command, response),
-            Line::Failed { command, .. } => command.write().len(),
-            Line::Published { content, .. } => content.as_str().len(),
-            Line::Answered { answer, .. } => answer_len(answer),
-            _ => 0,
+            Line::Exchange { .. } => Some(551),
+            Line::Failed { .. } => Some(293),
+            Line::Published { content, .. } => content.as_str().len().checked_add(32),
+            Line::Answered { answer, .. } => most_of_answer(answer),
+            _ => Some(32),
         }
     }
 }
 
 /// Puts the bytes of a line at the end, and gives its form.
 pub(crate) fn keep(line: &Line, bytes: &mut Reserved<u8>) -> Form
-    requires { length (spec.kept_bytes line.now) ≤ bytes.old.spare }
+    requires { most_kept line.now ≤ bytes.old.spare }
     ensures bytes { bytes.new.items ≡ bytes.old.items ++ spec.kept_bytes line.now }
-    ensures spare { bytes.old.spare ≤ bytes.new.spare + length (spec.kept_bytes line.now) }
+    ensures spare { bytes.old.spare ≤ bytes.new.spare + most_kept line.now }
     ensures back { spec.line_of result (spec.kept_bytes line.now) ≡ Some line.now }
 {
     match line {
@@ -240,28 +171,16 @@ pub(crate) fn keep(line: &Line, bytes: &mut Reserved<u8>) -> Form
             epoch,
             point,
             content,
-        } => {
-            keep_text(content, bytes);
-            Form::Published {
-                family: *family,
-                number: *number,
-                epoch: *epoch,
-                point: *point,
-            }
-        }
+        } => keep_published(*number, *family, *epoch, *point, content, bytes),
         Line::EpochEnd {
             number,
             epoch,
             event,
-        } => Form::EpochEnd {
-            number: *number,
-            epoch: *epoch,
-            event: *event,
-        },
-        Line::Refused { family, event } => Form::Refused {
-            family: *family,
-            event: *event,
-        },
+        } => keep_epoch_end(*number, *epoch, *event, bytes),
+        Line::Refused { family, event } => {
+            keep_number(*event, bytes);
+            Form::Refused { family: *family }
+        }
         Line::Answered { actor, op, answer } => Form::Answered {
             actor: *actor,
             op: *op,
@@ -276,11 +195,10 @@ fn keep_exchange(
     response: &Response,
     bytes: &mut Reserved<u8>,
 ) -> Form
-    requires { length (command_bytes command.now ++ response_bytes response.now) ≤ bytes.old.spare }
+    requires { 519 ≤ bytes.old.spare }
     ensures bytes { bytes.new.items ≡
         bytes.old.items ++ command_bytes command.now ++ response_bytes response.now }
-    ensures spare { bytes.old.spare ≤
-        bytes.new.spare + length (command_bytes command.now ++ response_bytes response.now) }
+    ensures spare { bytes.old.spare ≤ bytes.new.spare + 519 }
     ensures back { spec.line_of result (command_bytes command.now ++ response_bytes response.now)
         ≡ Some (Line.Exchange actor command.now response.now) }
 {
@@ -295,9 +213,9 @@ fn keep_exchange(
 }
 
 fn keep_failed(actor: u8, command: &Command, acted: bool, bytes: &mut Reserved<u8>) -> Form
-    requires { length (command_bytes command.now) ≤ bytes.old.spare }
+    requires { 261 ≤ bytes.old.spare }
     ensures bytes { bytes.new.items ≡ bytes.old.items ++ command_bytes command.now }
-    ensures spare { bytes.old.spare ≤ bytes.new.spare + length (command_bytes command.now) }
+    ensures spare { bytes.old.spare ≤ bytes.new.spare + 261 }
     ensures back { spec.line_of result (command_bytes command.now)
         ≡ Some (Line.Failed actor command.now acted) }
 {
@@ -315,10 +233,46 @@ fn keep_text(text: &Text, bytes: &mut Reserved<u8>)
     bytes.extend_within(text.as_str().as_bytes());
 }
 
+fn keep_published(
+    number: u64,
+    family: u8,
+    epoch: u64,
+    point: u64,
+    content: &Text,
+    bytes: &mut Reserved<u8>,
+) -> Form
+    requires { 27 + length content.now ≤ bytes.old.spare }
+    ensures bytes { bytes.new.items ≡ bytes.old.items ++ (spec.number_bytes number
+        ++ (spec.number_bytes epoch ++ (spec.number_bytes point ++ content.now))) }
+    ensures spare { bytes.old.spare ≤ bytes.new.spare + 27 + length content.now }
+    ensures back { spec.line_of result (spec.number_bytes number
+        ++ (spec.number_bytes epoch ++ (spec.number_bytes point ++ content.now)))
+        ≡ Some (Line.Published number family epoch point content.now) }
+{
+    keep_two(number, epoch, bytes);
+    keep_number(point, bytes);
+    keep_text(content, bytes);
+    Form::Published { family }
+}
+
+fn keep_epoch_end(number: u64, epoch: u64, event: u64, bytes: &mut Reserved<u8>) -> Form
+    requires { 27 ≤ bytes.old.spare }
+    ensures bytes { bytes.new.items ≡ bytes.old.items ++ (spec.number_bytes number
+        ++ (spec.number_bytes epoch ++ spec.number_bytes event)) }
+    ensures spare { bytes.old.spare ≤ bytes.new.spare + 27 }
+    ensures back { spec.line_of result
+        (spec.number_bytes number ++ (spec.number_bytes epoch ++ spec.number_bytes event))
+        ≡ Some (Line.EpochEnd number epoch event) }
+{
+    keep_two(number, epoch, bytes);
+    keep_number(event, bytes);
+    Form::EpochEnd
+}
+
 fn keep_response(response: &Response, bytes: &mut Reserved<u8>) -> AnswerForm
-    requires { length (response_bytes response.now) ≤ bytes.old.spare }
+    requires { 258 ≤ bytes.old.spare }
     ensures bytes { bytes.new.items ≡ bytes.old.items ++ response_bytes response.now }
-    ensures spare { bytes.old.spare ≤ bytes.new.spare + length (response_bytes response.now) }
+    ensures spare { bytes.old.spare ≤ bytes.new.spare + 258 }
     ensures back { spec.answer_of result (response_bytes response.now)
         ≡ Some (Answer.Raw response.now) }
 {
@@ -326,19 +280,97 @@ fn keep_response(response: &Response, bytes: &mut Reserved<u8>) -> AnswerForm
     AnswerForm::Raw
 }
 
-fn done_form(event: u64, publication: Option<u64>) -> AnswerForm
-    ensures { result ≡ spec.done_form event publication }
+fn keep_status(sw: Sw, event: u64, bytes: &mut Reserved<u8>) -> AnswerForm
+    requires { 18 ≤ bytes.old.spare }
+    ensures bytes { bytes.new.items ≡
+        bytes.old.items ++ (spec.number_bytes sw.0 ++ spec.number_bytes event) }
+    ensures spare { bytes.old.spare ≤ bytes.new.spare + 18 }
+    ensures back { spec.answer_of result (spec.number_bytes sw.0 ++ spec.number_bytes event)
+        ≡ Some (Answer.Status sw event) }
 {
-    match publication {
-        Some(publication) => AnswerForm::DonePublished { event, publication },
-        None => AnswerForm::Done { event },
+    keep_two(u64::from(sw.0), event, bytes);
+    AnswerForm::Status
+}
+
+fn keep_bad_file(width: u16, bytes: &mut Reserved<u8>) -> AnswerForm
+    requires { 9 ≤ bytes.old.spare }
+    ensures bytes { bytes.new.items ≡ bytes.old.items ++ spec.number_bytes width }
+    ensures spare { bytes.old.spare ≤ bytes.new.spare + 9 }
+    ensures back { spec.answer_of result (spec.number_bytes width)
+        ≡ Some (Answer.BadFile width) }
+{
+    keep_number(u64::from(width), bytes);
+    AnswerForm::BadFile
+}
+
+fn keep_not_writable(found: char, bytes: &mut Reserved<u8>) -> AnswerForm
+    requires { 9 ≤ bytes.old.spare }
+    ensures bytes { bytes.new.items ≡ bytes.old.items ++ spec.number_bytes found }
+    ensures spare { bytes.old.spare ≤ bytes.new.spare + 9 }
+    ensures back { spec.answer_of result (spec.number_bytes found)
+        ≡ Some (Answer.NotWritable found) }
+{
+    keep_number(u64::from(found), bytes);
+    AnswerForm::NotWritable
+}
+
+fn keep_done(
+    event: u64,
+    publication: Option<u64>,
+    left: &[u8],
+    bytes: &mut Reserved<u8>,
+) -> AnswerForm
+    requires { 19 + length left.now ≤ bytes.old.spare }
+    ensures bytes { bytes.new.items ≡ bytes.old.items
+        ++ (spec.number_bytes event ++ (spec.place_bytes publication ++ left.now)) }
+    ensures spare { bytes.old.spare ≤ bytes.new.spare + 19 + length left.now }
+    ensures back { spec.answer_of result
+        (spec.number_bytes event ++ (spec.place_bytes publication ++ left.now))
+        ≡ Some (Answer.Done event publication left.now) }
+{
+    keep_number(event, bytes);
+    keep_place(publication, bytes);
+    bytes.extend_within(left);
+    AnswerForm::Done
+}
+
+fn keep_look(count: u64, shown: &[Option<u64>], bytes: &mut Reserved<u8>) -> AnswerForm
+    requires few { length shown.now ≤ 8 }
+    requires spare { 89 ≤ bytes.old.spare }
+    ensures bytes { bytes.new.items ≡
+        bytes.old.items ++ (spec.number_bytes count ++ spec.shown_bytes shown.now) }
+    ensures spare { bytes.old.spare ≤ bytes.new.spare + 89 }
+    ensures back { spec.answer_of result (spec.number_bytes count ++ spec.shown_bytes shown.now)
+        ≡ Some (Answer.Look (record { count = count; shown = shown.now })) }
+{
+    keep_number(count, bytes);
+    keep_shown(shown, bytes);
+    AnswerForm::Look {
+        families: shown.len() as u8,
+    }
+}
+
+fn keep_notices(dropped: u64, numbers: &[u64], bytes: &mut Reserved<u8>) -> AnswerForm
+    requires few { length numbers.now ≤ 64 }
+    requires spare { 585 ≤ bytes.old.spare }
+    ensures bytes { bytes.new.items ≡
+        bytes.old.items ++ (spec.number_bytes dropped ++ spec.numbers_bytes numbers.now) }
+    ensures spare { bytes.old.spare ≤ bytes.new.spare + 585 }
+    ensures back { spec.answer_of result
+        (spec.number_bytes dropped ++ spec.numbers_bytes numbers.now)
+        ≡ Some (Answer.Notices dropped (record { items = numbers.now })) }
+{
+    keep_number(dropped, bytes);
+    keep_numbers(numbers, bytes);
+    AnswerForm::Notices {
+        count: numbers.len() as u8,
     }
 }
 
 fn keep_answer(answer: &Answer, bytes: &mut Reserved<u8>) -> AnswerForm
-    requires { length (spec.answer_bytes answer.now) ≤ bytes.old.spare }
+    requires { most_of_answer answer.now ≤ bytes.old.spare }
     ensures bytes { bytes.new.items ≡ bytes.old.items ++ spec.answer_bytes answer.now }
-    ensures spare { bytes.old.spare ≤ bytes.new.spare + length (spec.answer_bytes answer.now) }
+    ensures spare { bytes.old.spare ≤ bytes.new.spare + most_of_answer answer.now }
     ensures back { spec.answer_of result (spec.answer_bytes answer.now) ≡ Some answer.now }
 {
     match answer {
@@ -351,42 +383,51 @@ fn keep_answer(answer: &Answer, bytes: &mut Reserved<u8>) -> AnswerForm
             epoch,
             event,
             unsure,
-        } => AnswerForm::EpochEnded {
-            unsure: *unsure,
-            epoch: *epoch,
-            event: *event,
-        },
-        Answer::Status { sw, event } => AnswerForm::Status {
-            sw: *sw,
-            event: *event,
-        },
-        Answer::Loop { event } => AnswerForm::Loop { event: *event },
-        Answer::BadFcp { event } => AnswerForm::BadFcp { event: *event },
-        Answer::Loaded { publication } => AnswerForm::Loaded {
-            publication: *publication,
-        },
+        } => {
+            keep_two(*epoch, *event, bytes);
+            AnswerForm::EpochEnded { unsure: *unsure }
+        }
+        Answer::Status { sw, event } => keep_status(*sw, *event, bytes),
+        Answer::Loop { event } => {
+            keep_number(*event, bytes);
+            AnswerForm::Loop
+        }
+        Answer::BadFcp { event } => {
+            keep_number(*event, bytes);
+            AnswerForm::BadFcp
+        }
+        Answer::Loaded { publication } => {
+            keep_number(*publication, bytes);
+            AnswerForm::Loaded
+        }
         Answer::Done {
             event,
             publication,
             left,
-        } => {
-            bytes.extend_within(left.as_slice());
-            done_form(*event, *publication)
-        }
+        } => keep_done(*event, *publication, left.as_slice(), bytes),
         Answer::NeedsPin { key } => AnswerForm::NeedsPin { key: *key },
-        Answer::BadFile { width } => AnswerForm::BadFile { width: *width },
+        Answer::BadFile { width } => keep_bad_file(*width, bytes),
         Answer::NoRecord { at } => AnswerForm::NoRecord { at: *at },
         Answer::Full { count } => AnswerForm::Full { count: *count },
-        Answer::NotWritable { found } => AnswerForm::NotWritable { found: *found },
-        Answer::NameTooLong { need, room } => AnswerForm::NameTooLong {
-            need: *need,
-            room: *room,
-        },
-        Answer::BadDigit { at } => AnswerForm::BadDigit { at: *at },
-        Answer::NumberTooLong { count } => AnswerForm::NumberTooLong { count: *count },
+        Answer::NotWritable { found } => keep_not_writable(*found, bytes),
+        Answer::NameTooLong { need, room } => {
+            keep_two(*need as u64, *room as u64, bytes);
+            AnswerForm::NameTooLong
+        }
+        Answer::BadDigit { at } => {
+            keep_number(*at as u64, bytes);
+            AnswerForm::BadDigit
+        }
+        Answer::NumberTooLong { count } => {
+            keep_number(*count as u64, bytes);
+            AnswerForm::NumberTooLong
+        }
         Answer::ExtFull { count } => AnswerForm::ExtFull { count: *count },
         Answer::Opened { channel } => AnswerForm::Opened { channel: *channel },
-        Answer::Exhausted { event } => AnswerForm::Exhausted { event: *event },
+        Answer::Exhausted { event } => {
+            keep_number(*event, bytes);
+            AnswerForm::Exhausted
+        }
         Answer::Raw { response } => keep_response(response, bytes),
         Answer::RawRefused { ins } => AnswerForm::RawRefused { ins: *ins },
         Answer::NotHeldRef { handle } => AnswerForm::NotHeldRef { handle: *handle },
@@ -395,15 +436,9 @@ fn keep_answer(answer: &Answer, bytes: &mut Reserved<u8>) -> AnswerForm
         Answer::Verified => AnswerForm::Verified,
         Answer::Ended => AnswerForm::Ended,
         Answer::Polled => AnswerForm::Polled,
-        Answer::Look { seen } => {
-            keep_shown(seen.shown.as_slice(), bytes);
-            AnswerForm::Look { count: seen.count }
-        }
+        Answer::Look { seen } => keep_look(seen.count, seen.shown.as_slice(), bytes),
         Answer::Watching => AnswerForm::Watching,
-        Answer::Notices { dropped, numbers } => {
-            keep_numbers(numbers.as_slice(), bytes);
-            AnswerForm::Notices { dropped: *dropped }
-        }
+        Answer::Notices { dropped, numbers } => keep_notices(*dropped, numbers.as_slice(), bytes),
     }
 }
 
@@ -419,23 +454,28 @@ pub(crate) fn line_of(alloc: Global, form: Form, bytes: &[u8]) -> Result<Option<
         Form::Reset { actor } => Ok(Some(Line::Reset { actor })),
         Form::ResetFailed { actor } => Ok(Some(Line::ResetFailed { actor })),
         Form::World { actor, event } => Ok(Some(Line::World { actor, event })),
-        Form::Published {
+        Form::Published { family } => {
+            let (number, epoch, bytes) = take_two(bytes);
+            let (point, bytes) = take_number(bytes);
+            published_of(alloc, number, family, epoch, point, bytes)
+        }
+        Form::EpochEnd => Ok(Some(epoch_end_of(bytes))),
+        Form::Refused { family } => Ok(Some(Line::Refused {
             family,
-            number,
-            epoch,
-            point,
-        } => published_of(alloc, number, family, epoch, point, bytes),
-        Form::EpochEnd {
-            number,
-            epoch,
-            event,
-        } => Ok(Some(Line::EpochEnd {
-            number,
-            epoch,
-            event,
+            event: first_number(bytes),
         })),
-        Form::Refused { family, event } => Ok(Some(Line::Refused { family, event })),
         Form::Answered { actor, op, answer } => answered_of(alloc, actor, op, answer, bytes),
+    }
+}
+
+fn epoch_end_of(bytes: &[u8]) -> Line
+    ensures { result ≡ spec.epoch_end_of bytes.now }
+{
+    let (number, epoch, bytes) = take_two(bytes);
+    Line::EpochEnd {
+        number,
+        epoch,
+        event: first_number(bytes),
     }
 }
 
@@ -506,14 +546,32 @@ fn answered_of(
     Ok(Some(Line::Answered { actor, op, answer }))
 }
 
-fn done_of(
-    alloc: Global,
-    event: u64,
-    publication: Option<u64>,
-    bytes: &[u8],
-) -> Result<Answer, Memory>
-    ensures { IfOk result (λ answer. answer ≡ Answer.Done event publication bytes.now) }
+fn status_of(bytes: &[u8]) -> Answer
+    ensures { result ≡ Answer.Status (record { 0 = spec.first_word bytes.now })
+        (spec.second_number bytes.now) }
 {
+    let (_, event, _) = take_two(bytes);
+    Answer::Status {
+        sw: Sw(first_word(bytes)),
+        event,
+    }
+}
+
+/// The character of a code, or U+FFFD where it has none.
+fn character(code: u64) -> char
+    ensures { result ≡ spec.character code }
+{
+    if code > 0x10_FFFF {
+        return char::REPLACEMENT_CHARACTER;
+    }
+    char::from_u32(code as u32).unwrap_or(char::REPLACEMENT_CHARACTER)
+}
+
+fn done_of(alloc: Global, bytes: &[u8]) -> Result<Answer, Memory>
+    ensures { IfOk result (λ answer. answer ≡ spec.done_of bytes.now) }
+{
+    let (event, bytes) = take_number(bytes);
+    let (publication, bytes) = take_place(bytes);
     let left = Bytes::from_slice(alloc, bytes)?;
     Ok(Answer::Done {
         event,
@@ -529,19 +587,21 @@ fn raw_of(bytes: &[u8]) -> Option<Answer>
     Some(Answer::Raw { response })
 }
 
-fn look_of(count: u64, bytes: &[u8]) -> Option<Answer>
-    ensures { result ≡ spec.look_of count bytes.now }
+fn look_of(families: u8, bytes: &[u8]) -> Option<Answer>
+    ensures { result ≡ spec.look_of families bytes.now }
 {
-    let shown = shown_of(bytes)?;
+    let (count, bytes) = take_number(bytes);
+    let shown = shown_of(families as usize, bytes)?;
     Some(Answer::Look {
         seen: Seen { count, shown },
     })
 }
 
-fn notices_of(dropped: u64, bytes: &[u8]) -> Option<Answer>
-    ensures { result ≡ spec.notices_of dropped bytes.now }
+fn notices_of(count: u8, bytes: &[u8]) -> Option<Answer>
+    ensures { result ≡ spec.notices_of count bytes.now }
 {
-    let numbers = numbers_of(bytes)?;
+    let (dropped, bytes) = take_number(bytes);
+    let numbers = numbers_of(count as usize, bytes)?;
     Some(Answer::Notices { dropped, numbers })
 }
 
@@ -554,34 +614,52 @@ fn answer_of(alloc: Global, form: AnswerForm, bytes: &[u8]) -> Result<Option<Ans
         AnswerForm::SlotEmpty => Some(Answer::SlotEmpty),
         AnswerForm::ArmFull => Some(Answer::ArmFull),
         AnswerForm::Absent => Some(Answer::Absent),
-        AnswerForm::EpochEnded {
-            unsure,
-            epoch,
-            event,
-        } => Some(Answer::EpochEnded {
-            epoch,
-            event,
-            unsure,
-        }),
-        AnswerForm::Status { sw, event } => Some(Answer::Status { sw, event }),
-        AnswerForm::Loop { event } => Some(Answer::Loop { event }),
-        AnswerForm::BadFcp { event } => Some(Answer::BadFcp { event }),
-        AnswerForm::Loaded { publication } => Some(Answer::Loaded { publication }),
-        AnswerForm::Done { event } => Some(done_of(alloc, event, None, bytes)?),
-        AnswerForm::DonePublished { event, publication } => {
-            Some(done_of(alloc, event, Some(publication), bytes)?)
+        AnswerForm::EpochEnded { unsure } => {
+            let (epoch, event, _) = take_two(bytes);
+            Some(Answer::EpochEnded {
+                epoch,
+                event,
+                unsure,
+            })
         }
+        AnswerForm::Status => Some(status_of(bytes)),
+        AnswerForm::Loop => Some(Answer::Loop {
+            event: first_number(bytes),
+        }),
+        AnswerForm::BadFcp => Some(Answer::BadFcp {
+            event: first_number(bytes),
+        }),
+        AnswerForm::Loaded => Some(Answer::Loaded {
+            publication: first_number(bytes),
+        }),
+        AnswerForm::Done => Some(done_of(alloc, bytes)?),
         AnswerForm::NeedsPin { key } => Some(Answer::NeedsPin { key }),
-        AnswerForm::BadFile { width } => Some(Answer::BadFile { width }),
+        AnswerForm::BadFile => Some(Answer::BadFile {
+            width: first_word(bytes),
+        }),
         AnswerForm::NoRecord { at } => Some(Answer::NoRecord { at }),
         AnswerForm::Full { count } => Some(Answer::Full { count }),
-        AnswerForm::NotWritable { found } => Some(Answer::NotWritable { found }),
-        AnswerForm::NameTooLong { need, room } => Some(Answer::NameTooLong { need, room }),
-        AnswerForm::BadDigit { at } => Some(Answer::BadDigit { at }),
-        AnswerForm::NumberTooLong { count } => Some(Answer::NumberTooLong { count }),
+        AnswerForm::NotWritable => Some(Answer::NotWritable {
+            found: character(first_number(bytes)),
+        }),
+        AnswerForm::NameTooLong => {
+            let (need, room, _) = take_two(bytes);
+            Some(Answer::NameTooLong {
+                need: need as usize,
+                room: room as usize,
+            })
+        }
+        AnswerForm::BadDigit => Some(Answer::BadDigit {
+            at: first_number(bytes) as usize,
+        }),
+        AnswerForm::NumberTooLong => Some(Answer::NumberTooLong {
+            count: first_number(bytes) as usize,
+        }),
         AnswerForm::ExtFull { count } => Some(Answer::ExtFull { count }),
         AnswerForm::Opened { channel } => Some(Answer::Opened { channel }),
-        AnswerForm::Exhausted { event } => Some(Answer::Exhausted { event }),
+        AnswerForm::Exhausted => Some(Answer::Exhausted {
+            event: first_number(bytes),
+        }),
         AnswerForm::Raw => raw_of(bytes),
         AnswerForm::RawRefused { ins } => Some(Answer::RawRefused { ins }),
         AnswerForm::NotHeldRef { handle } => Some(Answer::NotHeldRef { handle }),
@@ -590,8 +668,8 @@ fn answer_of(alloc: Global, form: AnswerForm, bytes: &[u8]) -> Result<Option<Ans
         AnswerForm::Verified => Some(Answer::Verified),
         AnswerForm::Ended => Some(Answer::Ended),
         AnswerForm::Polled => Some(Answer::Polled),
-        AnswerForm::Look { count } => look_of(count, bytes),
+        AnswerForm::Look { families } => look_of(families, bytes),
         AnswerForm::Watching => Some(Answer::Watching),
-        AnswerForm::Notices { dropped } => notices_of(dropped, bytes),
+        AnswerForm::Notices { count } => notices_of(count, bytes),
     })
 }

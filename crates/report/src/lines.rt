@@ -1,6 +1,5 @@
 // The lines of a run, and the report of them.
 ghost use Rattle.std.specs.Prelude.{◌≡◌, ◌≤◌, ◌<◌, ◌+◌, ◌∷◌, [], length, reverse, slice_get, IsOk, IfOk, OnOk, OnErr};
-ghost use Rattle.report.specs.Kept.{kept_bytes};
 ghost use Rattle.report.specs.Room.{most_kept};
 
 use crate::form::{Entry, keep, line_of};
@@ -76,20 +75,6 @@ impl ReservedLines {
         self.bytes.reserve(bytes)
     }
 
-    // Puts a line behind the others, which keeps so many bytes.
-    fn put(&mut self, line: &Line, len: usize)
-        requires spare { 0 < self.old.spare }
-        requires len { len ≡ length (kept_bytes line.now) }
-        requires spare_bytes { len ≤ self.old.spare_bytes }
-        ensures lines { self.new.lines ≡ line.now ∷ self.old.lines }
-        ensures spare { self.new.spare + 1 ≡ self.old.spare }
-        ensures spare_bytes { self.old.spare_bytes ≤ self.new.spare_bytes + len }
-    {
-        let at = self.bytes.len();
-        let form = keep(line, &mut self.bytes);
-        self.entries.push_within(Entry { at, len, form });
-    }
-
     /// Puts a line behind the others, within the room, which cannot fail.
     pub fn push_within(&mut self, line: &Line)
         requires spare { 0 < self.old.spare }
@@ -98,8 +83,10 @@ impl ReservedLines {
         ensures spare { self.new.spare + 1 ≡ self.old.spare }
         ensures spare_bytes { self.old.spare_bytes ≤ self.new.spare_bytes + most_kept line.now }
     {
-        let len = line.kept_len();
-        self.put(line, len);
+        let at = self.bytes.len();
+        let form = keep(line, &mut self.bytes);
+        let len = self.bytes.len() - at;
+        self.entries.push_within(Entry { at, len, form });
     }
 
     /// Puts a line behind the others, and asks for memory where there is no room.
@@ -107,9 +94,11 @@ impl ReservedLines {
         ensures ok { OnOk result (self.new.lines ≡ line.now ∷ self.old.lines) }
         ensures err { OnErr result (self.new.lines ≡ self.old.lines) }
     {
-        let len = line.kept_len();
-        self.reserve(1, len)?;
-        self.put(line, len);
+        let Some(most) = line.most_kept() else {
+            return Err(Memory);
+        };
+        self.reserve(1, most)?;
+        self.push_within(line);
         Ok(())
     }
 
@@ -121,7 +110,7 @@ impl ReservedLines {
     }
 }
 
-/// The lines of a run. Contracts see them with the newest first. Of a line its bytes are kept and 48 more, so lines are
+/// The lines of a run. Contracts see them with the newest first. Of a line its bytes are kept and 24 more, so lines are
 /// handed out by value.
 #[derive(Drop)]
 pub struct Lines {

@@ -1,11 +1,11 @@
 use Rattle.std.proofs.Common.{arith, sym, append-nil}
-use Rattle.report.proofs.Words.{length_shown_bytes, shown_back}
+use Rattle.report.proofs.Words.{shown_back}
 use Rattle.report.proofs.numbers.keep_shown.Goals as goal
 
 pub loop-place-init : goal.loop-place-init
 loop-place-init c = record {
   bytes = sym (append-nil _);
-  room = omega (arith, length_shown_bytes c.args.shown.now);
+  room = omega arith;
   spare = omega arith;
   fits = λ k lt. absurd (omega arith);
 }
