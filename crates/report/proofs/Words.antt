@@ -1,10 +1,14 @@
 -- Numbers are read back from their bytes.
-use Rattle.std.proofs.Common.{◌≡◌, ◌<◌, ◌≤◌, ◌+◌, ◌-◌, ◌^◌, ℕ, suc, false, List, [], ◌∷◌, ◌++◌, length, append_assoc, append-nil, length-append, Option, Some, None, IfSome, refl, sym, ap, ◌∙◌, arith, get_or, inl, inr}
+use Rattle.std.proofs.Common.{◌≡◌, ◌<◌, ◌≤◌, ◌+◌, ◌-◌, ◌^◌, ◌/◌, ◌%◌, ℕ, zero, suc, false, List, [], ◌∷◌, ◌++◌, length, append_assoc, append-nil, length-append, Option, Some, None, IfSome, refl, sym, ap, ◌∙◌, arith, get_or, inl, inr}
 use Rattle.std.specs.Int.{Width, w16, w32, w64, to_be_bytes, from_be_bytes}
 use Rattle.std.specs.Prelude.{nat_lt}
+use Rattle.std.proofs.Math.Nat.{one-le-pow, pow-suc}
+use Rattle.std.specs.Fmt.{decimal}
+use Rattle.std.proofs.lemmas.Fmt.{decimal_by_steps}
 use Rattle.std.proofs.lemmas.Bool.{cases_lt, lt-ltb, le-ltb, ne_eqb}
 use Rattle.std.proofs.lemmas.List.{take_at, drop_at}
 use Rattle.std.proofs.lemmas.Nat.{from_be_bytes-to_be_bytes_2, from_be_bytes-to_be_bytes_4, from_be_bytes-to_be_bytes_8}
+use Rattle.report.specs.Texts.{number_text}
 use Rattle.report.specs.Kept.{number_bytes, numbers_bytes, place_bytes, shown_bytes, word, behind_word, first_number, behind_number, second_number, first_place, behind_place, words_of, places_of, numbers_of, shown_of}
 
 -- ---- words
@@ -225,3 +229,51 @@ places_end bytes rest items count few full before =
     let none_left : count - length items ≡ 0 = omega arith in
     let all : places_of count bytes ≡ items = before ∙ ap (λ (k : ℕ). items ++ places_of k rest) none_left ∙ append-nil items in
     rw (le-ltb 8 count few) (ap Some (sym all))
+
+-- ---- the bytes of a number are no more than its word of text
+
+least_one : (n : ℕ) → n < 10 → (k : ℕ) → 10 ^ k ≤ n → k < length ((48 + n) ∷ [])
+least_one n small zero le = omega arith
+least_one n small (suc k) le = absurd (omega (arith, pow-suc 10 k, one-le-pow k 10 (omega arith)))
+
+least_more : (n : ℕ) (ds : List ℕ) → 10 ≤ n → ((k : ℕ) → 10 ^ k ≤ n / 10 → k < length ds) → (k : ℕ) → 10 ^ k ≤ n → k < length (ds ++ (48 + n % 10) ∷ [])
+least_more n ds large shorter zero le = omega (arith, length-append ds ((48 + n % 10) ∷ []))
+least_more n ds large shorter (suc k) le =
+    let below : 10 ^ k ≤ n / 10 = omega (arith, pow-suc 10 k) in
+    omega (arith, shorter k below, length-append ds ((48 + n % 10) ∷ []))
+
+digits_least : (n : ℕ) → n < 2 ^ 64 → (k : ℕ) → 10 ^ k ≤ n → k < length (decimal n)
+digits_least = decimal_by_steps (λ n ds. (k : ℕ) → 10 ^ k ≤ n → k < length ds) least_one least_more
+
+small_1 : (n : ℕ) → n < 253 → length (number_bytes n) ≤ length (number_text n)
+small_1 n small = let e : length (number_bytes n) ≡ 1 = ap length (bytes_1 n small) in omega arith
+
+small_3 : (n : ℕ) → n < 2 ^ 64 → 253 ≤ n → n < 0x1_0000 → length (number_bytes n) ≤ length (number_text n)
+small_3 n fits large small =
+    let e : length (number_bytes n) ≡ 3 = ap length (bytes_3 n large small) in
+    let d : 1 < length (decimal n) = digits_least n fits 1 (omega arith) in
+    omega arith
+
+small_5 : (n : ℕ) → n < 2 ^ 64 → 0x1_0000 ≤ n → n < 0x1_0000_0000 → length (number_bytes n) ≤ length (number_text n)
+small_5 n fits large small =
+    let e : length (number_bytes n) ≡ 5 = ap length (bytes_5 n large small) in
+    let d : 3 < length (decimal n) = digits_least n fits 3 (omega arith) in
+    omega arith
+
+small_9 : (n : ℕ) → n < 2 ^ 64 → 0x1_0000_0000 ≤ n → length (number_bytes n) ≤ length (number_text n)
+small_9 n fits large =
+    let e : length (number_bytes n) ≡ 9 = ap length (bytes_9 n large) in
+    let d : 7 < length (decimal n) = digits_least n fits 7 (omega arith) in
+    omega arith
+
+pub number_small : (n : ℕ) → n < 2 ^ 64 → length (number_bytes n) ≤ length (number_text n)
+number_small n fits = elim (cases_lt n 253) [
+  | inl small ↦ small_1 n small
+  | inr large ↦ elim (cases_lt n 0x1_0000) [
+    | inl small ↦ small_3 n fits large small
+    | inr larger ↦ elim (cases_lt n 0x1_0000_0000) [
+      | inl small ↦ small_5 n fits larger small
+      | inr largest ↦ small_9 n fits largest
+    ]
+  ]
+]

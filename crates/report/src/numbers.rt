@@ -1,8 +1,8 @@
-// Numbers as bytes: one byte below 253, and else a mark and two, four or eight bytes with the high one first. That is
-// never longer than a space and the decimal digits.
+// Numbers as bytes: one byte below 253, and else a mark and two, four or eight bytes with the high one first.
 ghost use Rattle.std.specs.Prelude.{◌≡◌, ◌<◌, ◌≤◌, ◌+◌, ◌*◌, ◌^◌, ◌++◌, length, Some, option_map, IfSome};
 ghost use Rattle.std.specs.Int.{w16, w32, w64};
 ghost use Rattle.report.specs.Kept as spec;
+ghost use Rattle.report.specs.Texts.{number_text};
 
 use apdu::Reserved;
 use arrayvec::ArrayVec;
@@ -14,6 +14,7 @@ pub(crate) fn keep_number(number: u64, bytes: &mut Reserved<u8>)
     ensures bytes { bytes.new.items ≡ bytes.old.items ++ spec.number_bytes number }
     ensures spare { bytes.old.spare ≤ bytes.new.spare + 9 }
     ensures fits { number < 2 ^ 64 }
+    ensures small { length (spec.number_bytes number) ≤ length (number_text number) }
     ensures back { spec.first_number (spec.number_bytes number) ≡ number }
 {
     if number < 253 {
