@@ -45,6 +45,14 @@ impl Selection {
         self.current.as_ref()
     }
 
+    pub fn copy(&self) -> Selection
+        ensures { result ≡ self.now }
+    {
+        Selection {
+            current: self.current.as_ref().map(|path| path.copy()),
+        }
+    }
+
     /// Whether this path is current.
     pub fn is_at(&self, path: &Path) -> bool
         ensures { result ≡ rule.is_at self.now path.now }

@@ -1,2 +1,4 @@
 pub mod Values
 pub mod Reading
+pub mod Buffer
+pub mod Load

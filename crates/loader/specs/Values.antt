@@ -21,3 +21,9 @@ is_readable_by Directory size width = true
 -- its READs can be written as commands
 abbrev pub is_readable : Fcp → Bool
 is_readable f = is_readable_by f.kind f.size f.width
+
+-- what a load job keeps between its turns
+pub record JobValue : Type 0 where
+  pub paths : List (List ℕ)
+  -- the readings under way
+  pub readings : List ReadingValue

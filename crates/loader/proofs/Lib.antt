@@ -1,0 +1,4 @@
+pub mod Rows
+pub mod Buffer
+pub mod TakenOut
+pub mod Sent
