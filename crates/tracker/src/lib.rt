@@ -1,0 +1,10 @@
+//! What is kept of the lines so far, line by line.
+#![tactic(auto)]
+
+mod facts;
+mod fields;
+mod history;
+mod lines;
+mod lists;
+mod operations;
+mod standings;
