@@ -1,6 +1,5 @@
 // The commands of logical channels, ETSI TS 102 221 clauses 8.7, 11.1.1 and 11.1.17.
-ghost use Rattle.std.specs.Prelude.{◌≡◌, ◌≤◌, length, IfSome};
-ghost use Rattle.apdu.specs.Words.{is_one_of as is_one_of_numbers};
+ghost use Rattle.std.specs.Prelude.{◌≡◌, ◌≤◌, [], length, IfSome};
 ghost use Rattle.channels.specs.Channels as spec;
 
 use apdu::{ClassKind, Command, channel_of, class_for};
@@ -75,18 +74,12 @@ pub fn is_opening(command: &Command) -> bool
     command.ins == MANAGE_CHANNEL && command.p1 == OPEN
 }
 
-fn is_held(held: &[u8], number: u8) -> bool
-    ensures { result ≡ is_one_of_numbers number held.now }
-{
-    held.iter().any(|other| *other == number)
-}
-
-fn new_number(held: &[u8], body: &[u8]) -> Option<u8>
-    ensures value { result ≡ spec.new_number held.now body.now }
+fn new_number(body: &[u8]) -> Option<u8>
+    ensures value { result ≡ spec.new_number [] body.now }
     ensures within { IfSome result (λ number. number ≤ 19) }
 {
     match body {
-        [number] => if 1 <= *number && *number <= HIGHEST_CHANNEL && !is_held(held, *number) {
+        [number] => if 1 <= *number && *number <= HIGHEST_CHANNEL {
             Some(*number)
         } else {
             None
@@ -95,13 +88,13 @@ fn new_number(held: &[u8], body: &[u8]) -> Option<u8>
     }
 }
 
-/// The channel that a MANAGE CHANNEL opened: one byte from 1 to 19 that is none of the held channels.
-pub fn opened_number(held: &[u8], answered: &Final) -> Option<u8>
-    ensures value { result ≡ spec.opened_number held.now answered.now }
+/// The number that a MANAGE CHANNEL gave: one byte from 1 to 19.
+pub fn assigned_number(answered: &Final) -> Option<u8>
+    ensures value { result ≡ spec.opened_number [] answered.now }
     ensures within { IfSome result (λ number. number ≤ 19) }
 {
     if answered.response.sw.is_success() {
-        new_number(held, answered.response.body.as_slice())
+        new_number(answered.response.body.as_slice())
     } else {
         None
     }

@@ -4,5 +4,5 @@
 mod commands;
 
 pub use commands::{
-    close_command, is_opening, on_channel, open_command, opened_number, select_application,
+    assigned_number, close_command, is_opening, on_channel, open_command, select_application,
 };

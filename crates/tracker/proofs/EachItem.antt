@@ -46,3 +46,7 @@ pass_behind p xs i new e = rw add-one (one_less p xs i new e)
 pub all_pass : {X : Type 0} (xs : List X) → list_all (λ x. true) xs ≡ true
 all_pass [] = refl
 all_pass (x ∷ xs) = all_pass xs
+
+pub both_pass : (a b : Bool) → a ≡ true → b ≡ true → (a && b) ≡ true
+both_pass true b p q = q
+both_pass false b p q = p

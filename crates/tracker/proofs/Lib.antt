@@ -1,1 +1,3 @@
 pub mod EachItem
+pub mod Room
+pub mod Held

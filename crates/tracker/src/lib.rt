@@ -4,6 +4,8 @@
 mod facts;
 mod fields;
 mod history;
+mod holdings;
+mod jobs;
 mod lines;
 mod lists;
 mod operations;

@@ -1,0 +1,45 @@
+-- What a line asks of what is kept before it, so that it can be kept with the counters that there are.
+use Rattle.std.specs.Prelude.{◌≡◌, ℕ, ◌+◌, ◌<◌, ◌^◌, ◌&&◌, Bool, true, nat_le, nat_lt, length, Option, Some, None}
+use Rattle.std.specs.List.{list_all}
+use Rattle.adn.specs.declared.edit.RowUpdate.{RowUpdate}
+use Rattle.families.specs.Plans.{plan_updates}
+use Rattle.watchers.specs.declared.mailbox.Mailbox.{Mailbox}
+use Rattle.editor.specs.declared.editing.Attempt.{Attempt}
+use Rattle.rules.specs.declared.kept.Begun.{Begun}
+use Rattle.rules.specs.declared.kept.Job.{Job}
+use Rattle.rules.specs.declared.kept.Kept.{Kept}
+
+-- the number of dropped notices has room for one more
+abbrev pub mailbox_has_room : Option Mailbox → Bool
+mailbox_has_room None = true
+mailbox_has_room (Some m) = nat_lt (m.dropped + 1) (2 ^ 64)
+
+-- the bytes of an update fit into a command
+abbrev pub update_fits : RowUpdate → Bool
+update_fits u = nat_le (length u.bytes) 255
+
+-- those of all its updates do, and the number of updates that were sent has room for one more
+abbrev pub attempt_has_room : Option Attempt → Bool
+attempt_has_room None = true
+attempt_has_room (Some a) = nat_lt (a.sent + 1) (2 ^ 8) && list_all update_fits (plan_updates a.plan)
+
+abbrev pub begun_has_room : Option Begun → Bool
+begun_has_room None = true
+begun_has_room (Some b) = attempt_has_room b.editing.attempt
+
+-- so has the number of answered operations
+abbrev pub job_has_room : Job → Bool
+job_has_room job = nat_lt (job.answered + 1) (2 ^ 32) && mailbox_has_room job.mailbox && begun_has_room job.begun
+
+-- and each of the other counters
+pub record HasRoom (k : Kept) : Type 0 where
+  pub events : k.history.events + 1 < 2 ^ 64
+  pub calls : k.history.calls + 1 < 2 ^ 64
+  pub epoch : k.history.epoch + 1 < 2 ^ 64
+  pub publications : k.publications + 1 < 2 ^ 64
+  pub marks : k.marks + 1 < 2 ^ 64
+  pub jobs : list_all job_has_room k.jobs ≡ true
+
+-- what a line does to the job of its actor asks for that much
+abbrev pub own_has_room : Job → Bool
+own_has_room job = nat_lt (job.answered + 1) (2 ^ 32) && begun_has_room job.begun
