@@ -9,4 +9,5 @@ mod jobs;
 mod lines;
 mod lists;
 mod operations;
+mod own;
 mod standings;
