@@ -1,6 +1,8 @@
 -- What a line asks of what is kept before it, so that it can be kept with the counters that there are.
 use Rattle.std.specs.Prelude.{◌≡◌, ℕ, ◌+◌, ◌<◌, ◌^◌, ◌&&◌, Bool, true, nat_le, nat_lt, length, Option, Some, None}
 use Rattle.std.specs.List.{list_all}
+use Rattle.script_reader.specs.declared.types.Operation.{Operation}
+use Rattle.script_reader.specs.declared.types.Operation.TheVariants as operation
 use Rattle.adn.specs.declared.edit.RowUpdate.{RowUpdate}
 use Rattle.families.specs.Plans.{plan_updates}
 use Rattle.watchers.specs.declared.mailbox.Mailbox.{Mailbox}
@@ -18,10 +20,19 @@ mailbox_has_room (Some m) = nat_lt (m.dropped + 1) (2 ^ 64)
 abbrev pub update_fits : RowUpdate → Bool
 update_fits u = nat_le (length u.bytes) 255
 
--- those of all its updates do, and the number of updates that were sent has room for one more
+-- those of all its updates do
+abbrev pub attempt_fits : Option Attempt → Bool
+attempt_fits None = true
+attempt_fits (Some a) = list_all update_fits (plan_updates a.plan)
+
+abbrev pub begun_fits : Option Begun → Bool
+begun_fits None = true
+begun_fits (Some b) = attempt_fits b.editing.attempt
+
+-- and the number of updates that were sent has room for one more
 abbrev pub attempt_has_room : Option Attempt → Bool
 attempt_has_room None = true
-attempt_has_room (Some a) = nat_lt (a.sent + 1) (2 ^ 8) && list_all update_fits (plan_updates a.plan)
+attempt_has_room (Some a) = nat_lt (a.sent + 1) (2 ^ 8) && attempt_fits (Some a)
 
 abbrev pub begun_has_room : Option Begun → Bool
 begun_has_room None = true
@@ -43,3 +54,8 @@ pub record HasRoom (k : Kept) : Type 0 where
 -- what a line does to the job of its actor asks for that much
 abbrev pub own_has_room : Job → Bool
 own_has_room job = nat_lt (job.answered + 1) (2 ^ 32) && begun_has_room job.begun
+
+-- the identifier of an application fits into a command
+abbrev pub operation_fits : Option Operation → Bool
+operation_fits (Some (operation.OpenChannel handle aid)) = nat_le (length aid) 255
+operation_fits op = true

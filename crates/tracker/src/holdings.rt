@@ -1,5 +1,5 @@
 // Channels and PIN sessions that actors hold.
-ghost use Rattle.std.specs.Prelude.{◌≡◌, ◌≤◌, vec_len, if◌then◌else◌, OnOk, OnErr};
+ghost use Rattle.std.specs.Prelude.{◌≡◌, ◌≤◌, vec_len, if◌then◌else◌, IfSome, OnOk, OnErr};
 ghost use Rattle.std.specs.Vec.{vec_capacity};
 ghost use Rattle.std.specs.List.{list_any};
 ghost use Rattle.std.specs.Option.{option_copied};
@@ -60,8 +60,9 @@ fn is_held(history: Past, handles: &Handles, number: u8) -> bool
 }
 
 fn unless_held(history: Past, handles: &Handles, number: Option<u8>) -> Option<u8>
-    ensures { result
+    ensures value { result
         ≡ holdings.unless_held (channel_rules.held_numbers history handles.now) number }
+    ensures within { IfSome number (λ n. n ≤ 19) → IfSome result (λ n. n ≤ 19) }
 {
     let number = number?;
     if is_held(history, handles, number) {
@@ -76,6 +77,7 @@ fn unless_held(history: Past, handles: &Handles, number: Option<u8>) -> Option<u
 pub fn opened_number(history: Past, handles: &Handles, answered: &Final) -> Option<u8>
     ensures value { result
         ≡ number_opened (channel_rules.held_numbers history handles.now) answered.now }
+    ensures within { IfSome result (λ n. n ≤ 19) }
 {
     unless_held(history, handles, assigned_number(answered))
 }

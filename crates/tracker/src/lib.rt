@@ -11,3 +11,4 @@ mod lists;
 mod operations;
 mod own;
 mod standings;
+mod turn;
