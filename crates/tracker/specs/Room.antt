@@ -5,6 +5,7 @@ use Rattle.script_reader.specs.declared.types.Operation.{Operation}
 use Rattle.script_reader.specs.declared.types.Operation.TheVariants as operation
 use Rattle.adn.specs.declared.edit.RowUpdate.{RowUpdate}
 use Rattle.families.specs.Plans.{plan_updates}
+use Rattle.epoch_cache.specs.declared.past.Past.{Past}
 use Rattle.watchers.specs.declared.mailbox.Mailbox.{Mailbox}
 use Rattle.editor.specs.declared.editing.Attempt.{Attempt}
 use Rattle.rules.specs.declared.kept.Begun.{Begun}
@@ -42,13 +43,16 @@ begun_has_room (Some b) = attempt_has_room b.editing.attempt
 abbrev pub job_has_room : Job → Bool
 job_has_room job = nat_lt (job.answered + 1) (2 ^ 32) && mailbox_has_room job.mailbox && begun_has_room job.begun
 
--- and each of the other counters
+-- so has each of the other counters
+pub record CountsOn (history : Past) (published marked : ℕ) : Type 0 where
+  pub events : history.events + 1 < 2 ^ 64
+  pub calls : history.calls + 1 < 2 ^ 64
+  pub epoch : history.epoch + 1 < 2 ^ 64
+  pub publications : published + 1 < 2 ^ 64
+  pub marks : marked + 1 < 2 ^ 64
+
 pub record HasRoom (k : Kept) : Type 0 where
-  pub events : k.history.events + 1 < 2 ^ 64
-  pub calls : k.history.calls + 1 < 2 ^ 64
-  pub epoch : k.history.epoch + 1 < 2 ^ 64
-  pub publications : k.publications + 1 < 2 ^ 64
-  pub marks : k.marks + 1 < 2 ^ 64
+  pub counters : CountsOn k.history k.publications k.marks
   pub jobs : list_all job_has_room k.jobs ≡ true
 
 -- what a line does to the job of its actor asks for that much

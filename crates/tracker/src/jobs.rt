@@ -80,14 +80,14 @@ fn mailbox_behind(line: &Line, mailbox: &mut Option<Mailbox>)
 
 /// What a line does to every job.
 #[derive(Drop)]
-pub struct Beside<'a> {
-    pub alloc: Global,
-    pub line: &'a Line,
+struct Beside<'a> {
+    alloc: Global,
+    line: &'a Line,
     /// The epoch before the line.
-    pub epoch: u64,
-    pub facts: &'a Facts,
+    epoch: u64,
+    facts: &'a Facts,
     /// What was current on the basic channel before the line.
-    pub selected: Option<&'a Path>,
+    selected: Option<&'a Path>,
 }
 
 fn begun_beside(p: &Beside, b: &mut Begun)
@@ -134,12 +134,27 @@ impl Change<Job> for Beside<'_> {
     }
 }
 
+/// What a line does to every job. `epoch` is the one before the line, and `selected` was current on the basic channel.
 #[tactic(auto, using(crate::proofs::Room::jobs_have_it))]
-pub fn jobs_beside(p: &Beside, jobs: &mut Jobs)
+pub fn jobs_beside<'x>(
+    alloc: Global,
+    line: &'x Line,
+    epoch: u64,
+    facts: &'x Facts,
+    selected: Option<&'x Path>,
+    jobs: &mut Jobs,
+)
     requires { list_all job_has_room jobs.old ≡ true }
-    ensures jobs { jobs.new ≡ rules.jobs_beside p.now.line.now p.now.epoch p.now.facts.now
-        (option_copied p.now.selected) jobs.old }
+    ensures jobs { jobs.new ≡ rules.jobs_beside line.now epoch facts.now
+        (option_copied selected.entry) jobs.old }
     ensures room { list_all own_has_room jobs.new ≡ true }
 {
-    change_each(p.alloc, jobs, p);
+    let beside = Beside {
+        alloc,
+        line,
+        epoch,
+        facts,
+        selected,
+    };
+    change_each(alloc, jobs, &beside);
 }
