@@ -2,3 +2,4 @@ pub mod Room
 pub mod Held
 pub mod Finished
 pub mod Fields
+pub mod Lines

@@ -1,6 +1,7 @@
 //! What is kept of the lines so far, line by line.
 #![tactic(auto)]
 
+mod at;
 mod facts;
 mod fields;
 mod history;

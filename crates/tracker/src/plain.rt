@@ -1,6 +1,7 @@
 // The lines that belong to no operation.
-ghost use Rattle.std.specs.Prelude.{◌≡◌};
+ghost use Rattle.std.specs.Prelude.{◌≡◌, true};
 ghost use Rattle.rules.specs.After.{kept_after};
+ghost use Rattle.tracker.specs.Lines.{is_published};
 ghost use Rattle.tracker.specs.Room.{HasRoom};
 
 use crate::kept::keep_plain;
@@ -69,4 +70,16 @@ pub fn keep_refused(alloc: Global, script: &Script, family: u8, event: u64, kept
 {
     let _ = keep_plain(alloc, script, &Line::Refused { family, event }, kept);
     turn_refused(&mut kept.turn);
+}
+
+/// A family was published.
+pub fn keep_published(alloc: Global, script: &Script, line: &Line, kept: &mut Kept)
+    requires kind { is_published line.now ≡ true }
+    requires room { HasRoom kept.old }
+    ensures { kept.new ≡ kept_after script.now line.now kept.old }
+{
+    let _ = keep_plain(alloc, script, line, kept);
+    if let Line::Published { number, .. } = line {
+        turn_published(*number, &mut kept.turn);
+    }
 }
