@@ -34,10 +34,13 @@ handles_beside epoch facts handles = if facts.ends then ended_handles epoch fact
 abbrev pub files_beside : Line → Touch → List CachedFile → List CachedFile
 files_beside l touch files = if stops_epoch l then [] else forgotten touch files
 
--- all but the turn, behind a line that is no exchange and belongs to no operation
-abbrev pub plain_behind : Script → Line → Facts → Kept → Kept
-plain_behind s l facts k = record (fields_behind s l facts None k) {
+-- all but the jobs and the turn, behind a line that is no exchange
+abbrev pub rest_behind : Script → Line → Facts → Kept → Kept
+rest_behind s l facts k = record (fields_behind s l facts None k) {
   files = files_beside l facts.touch k.files;
   handles = handles_beside k.history.epoch facts k.handles;
-  jobs = jobs_beside l k.history.epoch facts k.selected k.jobs;
 }
+
+-- all but the turn, behind a line that is no exchange and belongs to no operation
+abbrev pub plain_behind : Script → Line → Facts → Kept → Kept
+plain_behind s l facts k = record (rest_behind s l facts k) { jobs = jobs_beside l k.history.epoch facts k.selected k.jobs }

@@ -8,8 +8,10 @@ ghost use Rattle.rules.specs.declared.kept.Job.{Job};
 ghost use Rattle.tracker.specs.Room.{own_has_room};
 
 use crate::own::{Sent, framework_marked, job_answered, job_begun, job_failed, job_marked};
+use apdu::{Command, Path};
 use editor::Attempt;
 use epoch_cache::Past;
+use link::Chain;
 use report::Answer;
 use rules::Jobs;
 use script::Operation;
@@ -46,16 +48,34 @@ pub fn begin_at(
     }
 }
 
-pub fn fail_at(sent: &Sent, actor: u8, jobs: &mut Jobs)
+/// A command of the actor failed. `operation` is the one that it has begun, `selected` was current on the basic channel, and `chain` is the one of
+/// which the line before is an exchange.
+pub fn fail_at<'x>(
+    alloc: Global,
+    operation: Option<&'x Operation>,
+    selected: Option<&'x Path>,
+    chain: Option<&'x Chain>,
+    event: u64,
+    command: &'x Command,
+    actor: u8,
+    jobs: &mut Jobs,
+)
     requires { list_all own_has_room jobs.old ≡ true }
     ensures { jobs.new ≡ change_at actor (λ (job : Job). record job {
-        begun = option_map (rules.begun_failed
-            (rules.edit_of (option_copied sent.now.operation)) (option_copied sent.now.selected)
-            (option_copied sent.now.chain) sent.now.event sent.now.command.now) job.begun
+        begun = option_map (rules.begun_failed (rules.edit_of (option_copied operation.entry))
+            (option_copied selected.entry) (option_copied chain.entry) event command.now) job.begun
     }) jobs.old }
 {
+    let sent = Sent {
+        alloc,
+        operation,
+        selected,
+        chain,
+        event,
+        command,
+    };
     if (actor as usize) < jobs.len() {
-        job_failed(sent, jobs.at_mut(actor as usize));
+        job_failed(&sent, jobs.at_mut(actor as usize));
     }
 }
 

@@ -72,6 +72,16 @@ pub fn keep_jobs(alloc: Global, line: &Line, facts: &Facts, kept: &mut Kept)
     );
 }
 
+/// All but the jobs and the turn, behind a line that is no exchange.
+pub fn keep_rest(alloc: Global, script: &Script, line: &Line, facts: &Facts, kept: &mut Kept)
+    requires { CountsOn kept.old.history kept.old.publications kept.old.marks }
+    ensures { kept.new ≡ fields.rest_behind script.now line.now facts.now kept.old }
+{
+    handles_beside(alloc, kept.history.epoch, facts, &mut kept.handles);
+    files_beside(alloc, line, &facts.touch, &mut kept.files);
+    keep_fields(script, line, facts, None, kept);
+}
+
 /// All but the turn, behind a line that is no exchange and belongs to no operation. Gives what the line says.
 pub fn keep_plain(alloc: Global, script: &Script, line: &Line, kept: &mut Kept) -> Facts
     requires { HasRoom kept.old }
@@ -80,10 +90,7 @@ pub fn keep_plain(alloc: Global, script: &Script, line: &Line, kept: &mut Kept) 
     ensures room { list_all own_has_room kept.new.jobs ≡ true }
 {
     let facts = facts_of(script, line, kept);
-    let epoch = kept.history.epoch;
     keep_jobs(alloc, line, &facts, kept);
-    handles_beside(alloc, epoch, &facts, &mut kept.handles);
-    files_beside(alloc, line, &facts.touch, &mut kept.files);
-    keep_fields(script, line, &facts, None, kept);
+    keep_rest(alloc, script, line, &facts, kept);
     facts
 }

@@ -10,6 +10,7 @@ mod jobs;
 mod kept;
 mod lines;
 mod lists;
+mod operation;
 mod operations;
 mod own;
 mod plain;
