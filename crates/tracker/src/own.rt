@@ -7,7 +7,7 @@ ghost use Rattle.apdu.specs.Words.{same_number as same_numbers};
 ghost use Rattle.rules.specs.After as rules;
 ghost use Rattle.rules.specs.Watching.{mailbox_after as mailbox_after_answer};
 ghost use Rattle.tracker.specs.Finished as finished;
-ghost use Rattle.tracker.specs.Room.{attempt_has_room, begun_has_room};
+ghost use Rattle.tracker.specs.Room.{attempt_has_room, begun_fits, begun_has_room};
 
 use apdu::{Command, Memory, Path, Response, Sequence};
 use editor::{Attempt, Editing};
@@ -254,6 +254,7 @@ fn readings_exchanged(
 }
 
 /// A command of the actor was answered. Gives the file of the reading that it completed; `started` says that start-up is finished.
+#[tactic(auto, using(crate::proofs::Room::exchanged_fits))]
 pub fn job_exchanged(
     sent: &Sent,
     response: &Response,
@@ -272,6 +273,7 @@ pub fn job_exchanged(
         readings = rules.readings_exchanged (option_copied sent.now.selected)
             (option_copied answered.entry) job.old.readings;
     }) }
+    ensures fits { OnOk result (begun_fits job.new.begun ≡ true) }
 {
     exchange_begun(sent, response, &mut job.begun)?;
     readings_exchanged(
