@@ -234,8 +234,8 @@ fn fail_begun(sent: &Sent, begun: &mut Option<Begun>)
     }
 }
 
-// The file that the command completed, where it was answered.
-fn readings_exchanged(
+/// Leads the readings on. Gives the file of the one that the command completed, where it was answered.
+pub fn readings_exchanged(
     alloc: Global,
     started: bool,
     answered: Option<&Final>,
