@@ -1,3 +1,4 @@
 pub mod EachItem
 pub mod Room
 pub mod Held
+pub mod OwnFinal

@@ -3,9 +3,11 @@ ghost use Rattle.std.specs.Prelude.{◌≡◌};
 ghost use Rattle.std.specs.Option.{option_copied};
 ghost use Rattle.rules.specs.Kept as rules;
 
+use apdu::Sequence;
 use loader::Reading;
-use rules::{Begun, Jobs};
+use rules::{Begun, Job, Jobs};
 use script::{Operation, Script};
+use std::alloc::Global;
 
 /// The operation of this number, from 0, of an actor.
 pub fn operation_at(script: &Script, actor: u8, op: u32) -> Option<&Operation>
@@ -17,6 +19,20 @@ pub fn operation_at(script: &Script, actor: u8, op: u32) -> Option<&Operation>
     match script.actors.get(actor as usize - 1) {
         None => None,
         Some(operations) => operations.get(op as usize),
+    }
+}
+
+/// What is kept of an actor before its first line.
+pub fn first_job(alloc: Global) -> Job
+    ensures { result ≡ rules.first_job }
+{
+    Job {
+        answered: 0,
+        seen: 0,
+        begun: None,
+        readings: Sequence::new(alloc),
+        family: None,
+        mailbox: None,
     }
 }
 
