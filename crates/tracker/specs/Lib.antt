@@ -3,3 +3,4 @@ pub mod Held
 pub mod Finished
 pub mod Fields
 pub mod Lines
+pub mod Marks

@@ -1,6 +1,7 @@
 -- What a line asks of what is kept before it, so that it can be kept with the counters that there are.
-use Rattle.std.specs.Prelude.{◌≡◌, ℕ, ◌+◌, ◌<◌, ◌^◌, ◌&&◌, Bool, true, nat_le, nat_lt, length, Option, Some, None}
+use Rattle.std.specs.Prelude.{◌≡◌, ℕ, ◌+◌, ◌<◌, ◌^◌, ◌&&◌, Bool, true, nat_le, nat_lt, List, length, Option, Some, None}
 use Rattle.std.specs.List.{list_all}
+use Rattle.script_reader.specs.declared.types.Script.{Script}
 use Rattle.script_reader.specs.declared.types.Operation.{Operation}
 use Rattle.script_reader.specs.declared.types.Operation.TheVariants as operation
 use Rattle.adn.specs.declared.edit.RowUpdate.{RowUpdate}
@@ -8,6 +9,9 @@ use Rattle.families.specs.Plans.{plan_updates}
 use Rattle.epoch_cache.specs.declared.past.Past.{Past}
 use Rattle.watchers.specs.declared.mailbox.Mailbox.{Mailbox}
 use Rattle.editor.specs.declared.editing.Attempt.{Attempt}
+use Rattle.report.specs.declared.line.Line.{Line}
+use Rattle.report.specs.declared.line.Line.TheVariants as line
+use Rattle.rules.specs.Kept.{operation_now}
 use Rattle.rules.specs.declared.kept.Begun.{Begun}
 use Rattle.rules.specs.declared.kept.Job.{Job}
 use Rattle.rules.specs.declared.kept.Kept.{Kept}
@@ -63,3 +67,8 @@ own_has_room job = nat_lt (job.answered + 1) (2 ^ 32) && begun_has_room job.begu
 abbrev pub operation_fits : Option Operation → Bool
 operation_fits (Some (operation.OpenChannel handle aid)) = nat_le (length aid) 255
 operation_fits op = true
+
+-- of the operation that the actor of an exchange has begun
+abbrev pub line_fits : Script → Line → List Job → Bool
+line_fits s (line.Exchange a c r) jobs = operation_fits (operation_now s a jobs)
+line_fits s l jobs = true
