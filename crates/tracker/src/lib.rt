@@ -4,6 +4,7 @@
 mod at;
 mod facts;
 mod fields;
+mod first;
 mod history;
 mod holdings;
 mod jobs;
@@ -16,6 +17,12 @@ mod operation;
 mod operations;
 mod own;
 mod plain;
+mod room;
 mod standings;
+mod tracker;
 mod turn;
 mod work;
+
+pub use open::{has_ended, has_work, is_finished, is_idle, waits_on};
+pub use tracker::Tracker;
+pub use work::{family_at, family_read, framework_work};
