@@ -48,7 +48,6 @@ rows_set Directory width rows i row l t h = absurd h
 -- a file with another row as wide
 pub fine_written : (file : FileState) (i : ℕ) (row : List ℕ) → (is_linear file.rows.kind ≡ true → length row ≡ file.rows.width) → (is_transparent file.rows.kind ≡ true → (length row ≡ file.rows.width) × (i ≡ 0)) → FineFile file → FineFile (with_record file i row)
 fine_written file i row l t fine = record {
-  apart = fine.apart;
   template = fine.template;
   rows = rows_set file.rows.kind file.rows.width file.rows.rows i row l t fine.rows;
   describes = rw (length-set file.rows.rows i row) fine.describes;

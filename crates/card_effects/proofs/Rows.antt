@@ -16,6 +16,7 @@ use Rattle.fcp.proofs.ReadBack.{read_fcp-write_fcp}
 use Rattle.card_model.specs.declared.world.FileState.{FileState}
 use Rattle.card_model.specs.Card.{fields_of_file, file_parameters, record_at}
 use Rattle.card_effects.specs.Fine.{FineFile}
+use Rattle.card_effects.specs.Rows.{RowsTrue}
 
 -- ---- control parameters
 
@@ -32,10 +33,6 @@ pub fcp_of_file : (file : FileState) (control : Fcp) → FineFile file → read_
 fcp_of_file file control fine h = fcp_by file control fine file.fcp refl h
 
 -- ---- a beginning of the rows
-
-pub record RowsTrue (content : Content) (rows : List (List ℕ)) : Type 0 where
-  pub linear : is_linear content.kind ≡ true → rows ≡ take (length rows) content.rows
-  pub transparent : is_transparent content.kind ≡ true → flat_map (λ row. row) rows ≡ take (255 * length rows) (first_row content.rows)
 
 pub no_rows : (content : Content) → RowsTrue content []
 no_rows content = record { linear = λ h. refl; transparent = λ h. refl }

@@ -318,7 +318,7 @@ record_fits file c w =
     let m = and_parts (c.p2 == 0x04) (nat_lt 0 c.p1) w.named in
     let f = none_test (nat_lt (length file.rows.rows) c.p1) 0x6A83 (if not (body_len c == file.rows.width) then Some 0x6700 else None) w.fits in
     let g = none_test (not (body_len c == file.rows.width)) 0x6700 None f.1 in
-    record { linear = w.kind; mode = eqb-true c.p2 0x04 m.0; row = f.0; width = eqb-true (body_len c) file.rows.width (not-false (body_len c == file.rows.width) g.0) }
+    record { linear = w.kind; mode = eqb-true c.p2 0x04 m.0; numbered = m.1; row = f.0; width = eqb-true (body_len c) file.rows.width (not-false (body_len c == file.rows.width) g.0) }
 
 within : (a b : ℕ) → nat_lt b a ≡ false → a ≤ b
 within a b h = grind arith

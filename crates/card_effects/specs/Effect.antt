@@ -174,10 +174,11 @@ pub record Updates (card : CardState) (channel : ChannelState) (p : CardState ×
   pub aids : p.0.aids ≡ card.aids
   pub status : is_success p.1.sw ≡ true
 
--- the record is there, and the body is as wide
+-- P1 numbers a record, which is there, and the body is as wide
 pub record RecordFits (file : FileState) (c : CommandValue) : Type 0 where
   pub linear : is_linear file.rows.kind ≡ true
   pub mode : c.p2 ≡ 0x04
+  pub numbered : nat_lt 0 c.p1 ≡ true
   pub row : nat_lt (length file.rows.rows) c.p1 ≡ false
   pub width : length c.body ≡ file.rows.width
 

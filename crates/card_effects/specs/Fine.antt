@@ -1,16 +1,13 @@
 -- Files that are well formed: what is asked of the files of cards and changes.
 use Rattle.std.specs.Prelude.{◌≡◌, ◌≤◌, ℕ, false, List, [], ◌∷◌, find, slice_get, Some, is_ok}
-use Rattle.apdu.specs.Words.{same_bytes}
 use Rattle.fcp.specs.Content.{IsContent}
 use Rattle.fcp.specs.Control.{read_fcp, Describes}
 use Rattle.card_model.specs.declared.world.FileState.{FileState}
 use Rattle.card_model.specs.declared.world.Change.{Change}
-use Rattle.card_model.specs.Card.{application_id, has_path, content_size, fields_of_file}
+use Rattle.card_model.specs.Card.{has_path, content_size, fields_of_file}
 
 -- a file as a reader takes it to be
 pub record FineFile (file : FileState) : Type 0 where
-  -- no file stands at the directory of the application
-  pub apart : same_bytes file.path (application_id ∷ []) ≡ false
   -- control parameters of its own are none that can be read
   pub template : (bytes : List ℕ) → file.fcp ≡ Some bytes → is_ok (read_fcp bytes) ≡ false
   -- its rows are as wide as it says

@@ -3,4 +3,5 @@ pub mod Basic
 pub mod Numbers
 pub mod Touched
 pub mod Fine
+pub mod Rows
 pub mod Laws

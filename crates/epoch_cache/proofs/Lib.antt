@@ -1,4 +1,5 @@
 pub mod EachItem
+pub mod Listed
 pub mod LookUps
 pub mod Placed
 pub mod Stored

@@ -1,5 +1,5 @@
 // The events of a run.
-ghost use Rattle.std.specs.Prelude.{◌≡◌, ◌+◌, ◌<◌, ◌≤◌, ◌∷◌, [], length, option_map, OnOk, OnErr};
+ghost use Rattle.std.specs.Prelude.{◌≡◌, ◌+◌, ◌<◌, ◌≤◌, ◌∷◌, [], length, option_map, IsOk, OnOk, OnErr};
 ghost use Rattle.epoch_cache.specs.Past.{event_bytes, past_of};
 
 use crate::store::{Entry, store};
@@ -48,6 +48,8 @@ impl History {
         ensures events { OnOk result (events ≤ self.new.spare_events) }
         ensures bytes { OnOk result (bytes ≤ self.new.spare_bytes) }
         ensures err { OnErr result (self.new ≡ self.old) }
+        ensures room { events ≤ self.old.spare_events → bytes ≤ self.old.spare_bytes
+            → IsOk result }
     {
         self.entries.reserve(events)?;
         self.bytes.reserve(bytes)?;

@@ -7,6 +7,7 @@ mod event;
 mod files;
 mod history;
 mod lists;
+mod moving;
 mod past;
 mod refresh;
 mod session;
@@ -27,6 +28,3 @@ pub use refresh::{asks_reset, handed_refresh, is_moved_by, is_refreshed};
 pub use session::{NeedsPin, PinSession, allowed};
 pub use touch::is_update;
 pub use versions::Versions;
-
-#[cfg(test)]
-mod tests;

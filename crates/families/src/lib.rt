@@ -11,6 +11,3 @@ mod standard;
 pub use content::{Field, Records, StandardContent};
 pub use family_set::{ContentText, Families};
 pub use standard::Standard;
-
-#[cfg(test)]
-mod tests;

@@ -121,7 +121,7 @@ abbrev pub Plays : Seen → List Step → Seen → Type 0
 Plays old [] new = new ≡ old
 Plays old (step ∷ steps) new = (between : Seen) × (Exchanges old step between × Plays between steps new)
 
--- a fault is answer_to only where the count of faults rose
+-- a fault is answered only where the count of faults rose
 pub record FailsOnFault {T : Type 0} (before now : ℕ) (result : Result T LinkError) : Type 0 where
   pub later : before ≤ now
   pub failed : result ≡ Err error.Slot → Rose before now

@@ -18,6 +18,3 @@ pub use select::{
 };
 pub use selection::Selection;
 pub use status::{has_more, is_refusal, wants_more};
-
-#[cfg(test)]
-mod tests;

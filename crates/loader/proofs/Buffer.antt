@@ -1,5 +1,5 @@
 -- One more row in the bytes of a reading.
-use Rattle.std.proofs.Common.{◌≡◌, ◌<◌, ◌≤◌, ◌+◌, ◌-◌, ◌*◌, ◌/◌, ℕ, zero, suc, List, [], ◌∷◌, ◌++◌, length, take, drop, replicate, min, Bool, true, false, Option, Some, None, refl, ap, ◌∙◌, sym, arith, length-append}
+use Rattle.std.proofs.Common.{◌≡◌, ◌<◌, ◌≤◌, ◌+◌, ◌-◌, ◌*◌, ℕ, List, ◌++◌, length, take, replicate, min, true, Option, Some, None, refl, ap, ◌∙◌, arith, length-append}
 use Rattle.std.proofs.Math.Nat as nat
 use Rattle.std.proofs.lemmas.Bool.{eqb-true}
 use Rattle.std.proofs.lemmas.List.{length-take, length-replicate}
@@ -9,7 +9,7 @@ use Rattle.fcp.specs.declared.control.Fcp.{Fcp}
 use Rattle.fcp.specs.declared.rows.FileKind.{FileKind}
 use Rattle.fcp.specs.declared.rows.FileKind.TheVariants.{Transparent, Linear, Directory}
 use Rattle.loader.specs.Reading.{piece_len, reads_needed, reads_needed_by, read_by, read_number, asked_len}
-use Rattle.loader.specs.Buffer.{row_len, row_len_by, len_of_rows, len_of_rows_by, IsBuffer}
+use Rattle.loader.specs.Buffer.{row_len, row_len_by, len_of_rows_by, IsBuffer}
 
 -- how long the row of a READ is
 abbrev next_len_by : FileKind → ℕ → ℕ → ℕ → ℕ

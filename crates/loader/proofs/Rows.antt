@@ -1,9 +1,8 @@
 -- Rows one behind another, of which the last may be shorter.
-use Rattle.std.proofs.Common.{◌≡◌, ◌<◌, ◌≤◌, ◌+◌, ◌-◌, ◌*◌, ℕ, zero, suc, List, [], ◌∷◌, ◌++◌, length, take, drop, replicate, min, refl, ap, ◌∙◌, sym, arith, add-one, append_assoc, append-nil, length-append, length-drop}
+use Rattle.std.proofs.Common.{◌≡◌, ◌≤◌, ◌+◌, ◌*◌, ℕ, zero, suc, List, [], ◌∷◌, ◌++◌, length, take, drop, refl, ap, ◌∙◌, arith, add-one, length-drop}
 use Rattle.std.specs.Prelude.{flat_map}
 use Rattle.std.proofs.Math.Nat as nat
-use Rattle.std.proofs.lemmas.List.{take_all, take-append-drop, take-append-le, drop-append-le, length-take-le}
-use Rattle.apdu.specs.Words.{filled_to}
+use Rattle.std.proofs.lemmas.List.{take_all, take-append-drop, take-append-le, drop-append-le}
 use Rattle.fcp.specs.Buffer.{rows_of}
 
 pub row_count : (n w : ℕ) (bs : List ℕ) → length (rows_of n w bs) ≡ n

@@ -7,23 +7,28 @@ use Rattle.std.proofs.lemmas.Bool.{and_parts, eqb-true}
 use Rattle.std.proofs.lemmas.List.{append_assoc, length-append}
 use Rattle.apdu.specs.Values.{CommandValue, ResponseValue}
 use Rattle.apdu.specs.Words.{same_bytes, same_number}
-use Rattle.apdu.specs.Apdu.{same_command, is_success}
+use Rattle.apdu.specs.Apdu.{same_command, is_success, wants_more}
 use Rattle.card_model.specs.declared.slot.SlotFault.{SlotFault}
 use Rattle.card_model.specs.declared.trail.Step.{Step}
+use Rattle.apdu.specs.declared.status.Sw.{Sw}
+use Rattle.fcp.specs.Control.{read_fcp}
 use Rattle.fcp.specs.declared.control.Fcp.{Fcp}
+use Rattle.fcp.specs.declared.control.FcpError.{FcpError}
 use Rattle.fcp.specs.declared.rows.FileKind.{FileKind}
 use Rattle.fcp.specs.declared.rows.FileKind.TheVariants.{Transparent, Linear, Directory}
 use Rattle.link.specs.declared.chain.Chain.{Chain}
 use Rattle.link.specs.declared.chain.Final.{Final}
 use Rattle.link.specs.declared.exchanges.LinkError.{LinkError}
-use Rattle.link.specs.Commands.{asks_more, chain_after, chain_count, chain_first, continued, final_after, first_of, follow_up, is_path_select}
+use Rattle.link.specs.declared.exchanges.LinkError.TheVariants as link
+use Rattle.link.specs.Commands.{asks_more, chain_count, chain_first, final_after, first_of, follow_up, is_path_select, is_reading_select, is_refused}
 use Rattle.link.specs.Exchanges.{Grows, added, answer_of, chain_of, exchanged}
 use Rattle.link.proofs.Steps.{each-continued}
+use Rattle.loader.specs.declared.stage.LoadError.TheVariants as error
 use Rattle.loader.specs.declared.stage.Stage.{Stage}
-use Rattle.loader.specs.declared.stage.Stage.TheVariants.{Fresh, Next, Over}
+use Rattle.loader.specs.declared.stage.Stage.TheVariants.{Over}
 use Rattle.loader.specs.Values.{ReadingValue}
 use Rattle.loader.specs.Reading.{is_complete, next_read, read_by, read_number, reading_of}
-use Rattle.loader.specs.Load.{Load, AreDue, IsReadNext, due_by_chain, is_selected, load_after, load_by, load_by_final, load_due, next_or_over, readings_behind, stage_behind}
+use Rattle.loader.specs.Load.{Load, AreDue, IsReadNext, bad_fcp, due_by_chain, load_after, load_by, load_due, next_or_over, readings_exchanged, refusal_of, stage_behind}
 
 -- ---- a command that is the same
 
@@ -95,7 +100,7 @@ reads-next : (g : Option ReadingValue) → IsReadNext (next_or_over (option_and_
 reads-next None = tt
 reads-next (Some g) = reads-unless (is_complete g) (read_number g.control (length g.rows)) (reads-by g.control.kind g.control (length g.rows))
 
-reads-selected : (b : Bool) (g : Option ReadingValue) → IsReadNext (if b then next_or_over (option_and_then next_read g) else Over)
+reads-selected : (b : Bool) (g : Option ReadingValue) → IsReadNext (next_or_over (if b then option_and_then next_read g else None))
 reads-selected true g = reads-next g
 reads-selected false g = tt
 
@@ -104,15 +109,15 @@ pub record Left (first : CommandValue) (stage : Stage) : Type 0 where
   pub reads : IsReadNext stage
   pub over : is_path_select first ≡ false → stage ≡ Over
 
-left-selected : (path : List ℕ) (first : CommandValue) (good : Bool) (g : Option ReadingValue) → Left first (if is_path_select first && good then next_or_over (option_and_then next_read g) else Over)
+left-selected : (path : List ℕ) (first : CommandValue) (good : Bool) (g : Option ReadingValue) → Left first (next_or_over (if is_path_select first && good then option_and_then next_read g else None))
 left-selected path first good g = record {
   reads = reads-selected (is_path_select first && good) g;
   over = λ h. rw h refl;
 }
 
-left-final : (b : Bool) (path : List ℕ) (f : Final) (l : Load) → b ≡ false → Left f.command (stage_behind path (readings_behind (if b then None else Some f) l.selected l.readings) (if b then None else Some f) l.stage)
+left-final : (b : Bool) (path : List ℕ) (f : Final) (l : Load) → b ≡ false → Left f.command (stage_behind path (readings_exchanged l.selected (if b then None else Some f) l.readings) (if b then None else Some f) l.stage)
 left-final true path f l h = absurd (cc)
-left-final false path f l h = left-selected path f.command (is_success f.response.sw) (reading_of path (readings_behind (Some f) l.selected l.readings))
+left-final false path f l h = left-selected path f.command (is_success f.response.sw) (reading_of path (readings_exchanged l.selected (Some f) l.readings))
 
 not-passed : {A : Type 0} (b : Bool) (x : A) → (if b then Some x else None) ≡ None → b ≡ false
 not-passed true x h = absurd (cc)
@@ -125,13 +130,31 @@ left-by path c (Ok r) l h =
     let f : Final = record { actor = 0; command = chain_first c l.chain; response = r; event = l.events + 1; first_event = l.events + 1 - chain_count c l.chain } in
     left-final (asks_more (chain_count c l.chain + 1) c r) path f l (not-passed (asks_more (chain_count c l.chain + 1) c r) chain h)
 
+-- ---- a failed exchange
+
+other-refusal : (looping refusing selecting : Bool) (x : Result Fcp FcpError) (sw : Sw) → (if looping then Some (error.Loop sw) else if refusing then Some (error.Status sw) else elim selecting [ true ↦ bad_fcp x | false ↦ None ]) ≡ Some error.Slot → ⊥
+other-refusal true refusing selecting x sw h = cc
+other-refusal false true selecting x sw h = cc
+other-refusal false false true (Ok control) sw h = cc
+other-refusal false false true (Err e) sw h = cc
+other-refusal false false false x sw h = cc
+
+no-fault : (answered : Option Final) → option_and_then refusal_of answered ≡ Some error.Slot → ⊥
+no-fault None h = cc
+no-fault (Some f) h = other-refusal (wants_more f.response.sw) (is_refused f) (is_reading_select f.command && is_success f.response.sw) (read_fcp f.response.body) (record { 0 = f.response.sw }) h
+
+fault-by : (path : List ℕ) (c : CommandValue) (outcome : Result ResponseValue SlotFault) (l : Load) → (load_by path c outcome l).refused ≡ Some error.Slot → answer_of c outcome ≡ Err link.Slot
+fault-by path c (Ok r) l h = absurd (no-fault (final_after 0 c r l.events l.chain) h)
+fault-by path c (Err fault) l h = refl
+
 -- ---- the exchanges of a command
 
 -- they were due, none is left, and this is the stage behind them
-pub record Sent (path : List ℕ) (steps : List Step) (first : CommandValue) (l : Load) : Type 0 where
+pub record Sent (path : List ℕ) (steps : List Step) (first : CommandValue) (l : Load) (r : Result ResponseValue LinkError) : Type 0 where
   pub due : AreDue path steps l
   pub chain : (load_after path steps l).chain ≡ None
   pub left : Left first (load_after path steps l).stage
+  pub fault : (load_after path steps l).refused ≡ Some error.Slot → r ≡ Err link.Slot
 
 due-behind : (path : List ℕ) (l : Load) (chain : Chain) → l.chain ≡ Some chain → load_due path l ≡ Some chain.next
 due-behind path l chain k = ap (λ (o : Option Chain). due_by_chain path l o) k
@@ -143,12 +166,19 @@ steps_in (Some p) = p.1
 no-more : (answer r : Result ResponseValue LinkError) (steps : List Step) → ◌≡◌ {A = Option (Result ResponseValue LinkError × List Step)} (Some (answer, steps)) (Some (r, [])) → steps ≡ []
 no-more answer r steps h = ap (λ (o : Option (Result ResponseValue LinkError × List Step)). steps_in o) h
 
-sent-rest : (o : Option Chain) (path : List ℕ) (steps : List Step) (first : CommandValue) (l : Load) (answer r : Result ResponseValue LinkError) → l.chain ≡ o → (o ≡ None → Left first l.stage) → ((chain : Chain) → o ≡ Some chain → exchanged chain.next (Some chain) steps ≡ Some (r, []) → Sent path steps first l) → unwrap_or (option_map (λ (chain : Chain). exchanged chain.next (Some chain) steps) o) (Some (answer, steps)) ≡ Some (r, []) → Sent path steps first l
-sent-rest None path steps first l answer r chain left more h =
-    subst (λ (rest : List Step). Sent path rest first l) (sym (no-more answer r steps h)) (record { due = tt; chain = chain; left = left refl })
-sent-rest (Some chain) path steps first l answer r is left more h = more chain refl h
+abbrev answer_in : Option (Result ResponseValue LinkError × List Step) → Result ResponseValue LinkError → Result ResponseValue LinkError
+answer_in None r = r
+answer_in (Some p) r = p.0
 
-pub sent : (steps : List Step) (path : List ℕ) (c first : CommandValue) (l : Load) (r : Result ResponseValue LinkError) → load_due path l ≡ Some c → chain_first c l.chain ≡ first → exchanged c l.chain steps ≡ Some (r, []) → Sent path steps first l
+its-answer : (answer r : Result ResponseValue LinkError) (steps : List Step) → ◌≡◌ {A = Option (Result ResponseValue LinkError × List Step)} (Some (answer, steps)) (Some (r, [])) → answer ≡ r
+its-answer answer r steps h = ap (λ (o : Option (Result ResponseValue LinkError × List Step)). answer_in o r) h
+
+sent-rest : (o : Option Chain) (path : List ℕ) (steps : List Step) (first : CommandValue) (l : Load) (answer r : Result ResponseValue LinkError) → l.chain ≡ o → (o ≡ None → Left first l.stage) → (l.refused ≡ Some error.Slot → answer ≡ Err link.Slot) → ((chain : Chain) → o ≡ Some chain → exchanged chain.next (Some chain) steps ≡ Some (r, []) → Sent path steps first l r) → unwrap_or (option_map (λ (chain : Chain). exchanged chain.next (Some chain) steps) o) (Some (answer, steps)) ≡ Some (r, []) → Sent path steps first l r
+sent-rest None path steps first l answer r chain left fault more h =
+    subst (λ (rest : List Step). Sent path rest first l r) (sym (no-more answer r steps h)) (record { due = tt; chain = chain; left = left refl; fault = λ f. sym (its-answer answer r steps h) ∙ fault f })
+sent-rest (Some chain) path steps first l answer r is left fault more h = more chain refl h
+
+pub sent : (steps : List Step) (path : List ℕ) (c first : CommandValue) (l : Load) (r : Result ResponseValue LinkError) → load_due path l ≡ Some c → chain_first c l.chain ≡ first → exchanged c l.chain steps ≡ Some (r, []) → Sent path steps first l r
 sent [] path c first l r due is h = absurd (cc)
 sent (step ∷ steps) path c first l r due is h =
     let o = chain_of step.command step.outcome l.chain in
@@ -157,15 +187,16 @@ sent (step ∷ steps) path c first l r due is h =
     let behind = load_by path step.command step.outcome l in
     let chained : behind.chain ≡ o = load-chain path step.command step.outcome l in
     let started : chain_first step.command l.chain ≡ first = ap (λ (d : CommandValue). chain_first d l.chain) e ∙ is in
-    let s : Sent path steps first behind = sent-rest o path steps first behind (answer_of step.command step.outcome) r chained
-        (λ none. subst (λ (f : CommandValue). Left f behind.stage) started (left-by path step.command step.outcome l none))
-        (λ chain k x. sent steps path chain.next first behind r (due-behind path behind chain (chained ∙ k))
-            (ap (chain_first chain.next) (chained ∙ k) ∙ chain-first-next chain ∙ chain-from step.command step.outcome l.chain chain k ∙ started)
-            (ap (λ (b : Option Chain). exchanged chain.next b steps) (chained ∙ k) ∙ x))
-        (behind-test (same_command step.command c) rest (r, []) h) in
-    record { due = (due ∙ ap (λ (d : CommandValue). Some d) (sym e), s.due); chain = s.chain; left = s.left }
+    let s : Sent path steps first behind r = sent-rest o path steps first behind (answer_of step.command step.outcome) r chained
+    (λ none. subst (λ (f : CommandValue). Left f behind.stage) started (left-by path step.command step.outcome l none))
+    (fault-by path step.command step.outcome l)
+    (λ chain k x. sent steps path chain.next first behind r (due-behind path behind chain (chained ∙ k))
+    (ap (chain_first chain.next) (chained ∙ k) ∙ chain-first-next chain ∙ chain-from step.command step.outcome l.chain chain k ∙ started)
+    (ap (λ (b : Option Chain). exchanged chain.next b steps) (chained ∙ k) ∙ x))
+    (behind-test (same_command step.command c) rest (r, []) h) in
+    record { due = (due ∙ ap (λ (d : CommandValue). Some d) (sym e), s.due); chain = s.chain; left = s.left; fault = s.fault }
 
-pub sent-fresh : (steps : List Step) (path : List ℕ) (c : CommandValue) (l : Load) (r : Result ResponseValue LinkError) → l.chain ≡ None → load_due path l ≡ Some c → exchanged c None steps ≡ Some (r, []) → Sent path steps c l
+pub sent-fresh : (steps : List Step) (path : List ℕ) (c : CommandValue) (l : Load) (r : Result ResponseValue LinkError) → l.chain ≡ None → load_due path l ≡ Some c → exchanged c None steps ≡ Some (r, []) → Sent path steps c l r
 sent-fresh steps path c l r none due h = sent steps path c c l r due (ap (chain_first c) none) (ap (λ (o : Option Chain). exchanged c o steps) none ∙ h)
 
 -- ---- a call behind another

@@ -4,9 +4,10 @@
 -- then sends the first READ. Later it sends the next READ, behind a SELECT without an answer where another file is current. What follows a
 -- response 61XX or 6CXX is sent at once. A turn ends behind its READ, behind a SELECT that leaves no READ, behind a refusal, and behind an
 -- exchange that failed.
-use Rattle.std.specs.Prelude.{◌≡◌, ℕ, ◌+◌, ◌&&◌, Bool, true, false, if◌then◌else◌, List, [], ◌∷◌, Option, Some, None, option_map, option_and_then, Result, Ok, Err}
+use Rattle.std.specs.Prelude.{◌≡◌, ◌≤◌, ℕ, ◌+◌, ◌&&◌, Bool, true, false, if◌then◌else◌, List, [], ◌∷◌, Option, Some, None, option_and_then, Result, Ok, Err}
 use Rattle.apdu.specs.Values.{CommandValue, ResponseValue}
 use Rattle.apdu.specs.Apdu.{is_success, wants_more}
+use Rattle.apdu.specs.Stream.{Rose}
 use Rattle.fcp.specs.Control.{read_fcp}
 use Rattle.fcp.specs.declared.control.Fcp.{Fcp}
 use Rattle.fcp.specs.declared.control.FcpError.{FcpError}
@@ -82,13 +83,16 @@ abbrev pub is_selected : Final → Bool
 is_selected f = is_path_select f.command && is_success f.response.sw
 
 -- behind a SELECT comes the next READ of the path; `readings` are those behind the SELECT
+abbrev pub read_behind : List ℕ → List ReadingValue → Final → Option CommandValue
+read_behind path readings f = if is_selected f then option_and_then next_read (reading_of path readings) else None
+
 abbrev pub stage_behind : List ℕ → List ReadingValue → Option Final → Stage → Stage
 stage_behind path readings None before = before
-stage_behind path readings (Some f) before = if is_selected f then next_or_over (option_and_then next_read (reading_of path readings)) else Over
+stage_behind path readings (Some f) before = next_or_over (read_behind path readings f)
 
-abbrev pub readings_behind : Option Final → Option (List ℕ) → List ReadingValue → List ReadingValue
-readings_behind None selected readings = readings
-readings_behind (Some f) selected readings = readings_after f selected readings
+abbrev pub readings_exchanged : Option (List ℕ) → Option Final → List ReadingValue → List ReadingValue
+readings_exchanged selected None readings = readings
+readings_exchanged selected (Some f) readings = readings_after f selected readings
 
 -- start-up is finished wherever a load reads
 abbrev pub completed_behind : Option Final → Option (List ℕ) → List ReadingValue → Option CachedFile
@@ -109,10 +113,10 @@ refusal_of f =
 abbrev pub load_by_final : List ℕ → Option Final → CommandValue → ResponseValue → Load → Load
 load_by_final path answered c r l = record {
   chain = chain_after c r l.chain;
-  stage = stage_behind path (readings_behind answered l.selected l.readings) answered l.stage;
+  stage = stage_behind path (readings_exchanged l.selected answered l.readings) answered l.stage;
   selected = selection_after c r l.selected;
   files = with_completed (completed_behind answered l.selected l.readings) l.files;
-  readings = readings_behind answered l.selected l.readings;
+  readings = readings_exchanged l.selected answered l.readings;
   events = l.events + 1;
   refused = option_and_then refusal_of answered;
 }
@@ -186,6 +190,11 @@ pub record HasTurned (path : Option (List ℕ)) (paths : List (List ℕ)) (l : L
   pub readings : new_readings ≡ l.readings
   pub over : IsOver path l
   pub answer : result ≡ load_answer paths l.refused l.files
+
+-- it answers a fault only where the count of faults rose
+pub record FaultHasCause (before now : ℕ) (result : Result LoadTurn LoadError) : Type 0 where
+  pub later : before ≤ now
+  pub failed : result ≡ Err error.Slot → Rose before now
 
 -- ---- a turn of the code
 

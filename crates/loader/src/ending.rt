@@ -34,8 +34,8 @@ fn names_application(path: &Option<Path>) -> bool
     }
 }
 
-/// Whether the card tells that it has no file of the path: 6A82 to the SELECT of a reading. Of a file of the USIM it tells so only once
-/// start-up is finished, which has selected the USIM.
+/// Whether the card tells that it has no file of the path: 6A82 to the SELECT of a reading. Of a
+/// file of the USIM it tells so only once start-up is finished, which has selected the USIM.
 pub fn tells_no_file(started: bool, answered: &Final) -> bool
     ensures { result ≡ spec.tells_no_file started answered.now }
 {
@@ -60,8 +60,8 @@ fn file_of(alloc: Global, done: Option<Reading>) -> Option<CachedFile>
     Some(done?.into_file(alloc))
 }
 
-/// Leads a job's readings on by a command of its own that was answered, as `read_on` does, and hands out the file that the command completed.
-/// `started` says that start-up is finished.
+/// Leads a job's readings on by a command of its own that was answered, as `read_on` does, and
+/// hands out the file that the command completed. `started` says that start-up is finished.
 pub fn completed_by(
     alloc: Global,
     started: bool,
@@ -69,8 +69,10 @@ pub fn completed_by(
     selected: Option<&Path>,
     readings: &mut Readings,
 ) -> Result<Option<CachedFile>, Memory>
-    ensures value { IfOk result (λ file. file ≡ spec.completed_by started answered.now (option_copied selected.entry) readings.old) }
-    ensures ok { OnOk result (readings.new ≡ spec.readings_after answered.now (option_copied selected.entry) readings.old) }
+    ensures value { IfOk result (λ file. file
+        ≡ spec.completed_by started answered.now (option_copied selected.entry) readings.old) }
+    ensures ok { OnOk result (readings.new
+        ≡ spec.readings_after answered.now (option_copied selected.entry) readings.old) }
     ensures err { OnErr result (readings.new ≡ readings.old) }
     ensures room { commands.is_reading_select answered.now.command ≡ false → IsOk result }
 {
@@ -82,7 +84,8 @@ pub fn completed_by(
     }
 }
 
-/// Whether the SELECT of a reading succeeded with a body that is no template of control parameters.
+/// Whether the SELECT of a reading succeeded with a body that is no template of control
+/// parameters.
 pub fn has_bad_fcp(answered: &Final) -> bool
     ensures { result ≡ spec.has_bad_fcp answered.now }
 {
@@ -92,7 +95,8 @@ pub fn has_bad_fcp(answered: &Final) -> bool
 }
 
 fn refused_select(answered: &Final) -> Option<RefusedReading>
-    ensures { result ≡ option_map (λ path. spec.refused_at path answered.now.first_event) (commands.named_path answered.now.command) }
+    ensures { result ≡ option_map (λ path. spec.refused_at path answered.now.first_event)
+        (commands.named_path answered.now.command) }
 {
     Some(RefusedReading {
         path: named_path(&answered.command)?,
@@ -101,7 +105,8 @@ fn refused_select(answered: &Final) -> Option<RefusedReading>
 }
 
 fn refused_read(g: Option<&Reading>) -> Option<RefusedReading>
-    ensures { result ≡ option_map (λ (g : ReadingValue). spec.refused_at g.path g.first_event) (option_copied g.entry) }
+    ensures { result ≡ option_map (λ (g : ReadingValue). spec.refused_at g.path g.first_event)
+        (option_copied g.entry) }
 {
     let g = g?;
     Some(RefusedReading {
@@ -110,7 +115,8 @@ fn refused_read(g: Option<&Reading>) -> Option<RefusedReading>
     })
 }
 
-/// The reading that the command ended by a refusal. `readings` are those before it, and `selected` is current on the basic channel.
+/// The reading that the command ended by a refusal. `readings` are those before it, and `selected`
+/// is current on the basic channel.
 pub fn refused_by(
     answered: &Final,
     selected: Option<&Path>,

@@ -1,16 +1,21 @@
 // A load, turn by turn.
 ghost use Rattle.std.specs.Prelude.{◌≡◌, ◌+◌, ◌<◌, ◌≤◌, ◌^◌, [], false, drop, length, Some, None, Ok, OnOk, IfOk};
 ghost use Rattle.std.specs.Option.{option_copied};
+ghost use Rattle.apdu.specs.Stream.{Rose};
 ghost use Rattle.epoch_cache.specs.Cache.{first_missing, with_completed};
 ghost use Rattle.epoch_cache.specs.Places.{highest_version};
 ghost use Rattle.link.specs.Commands.{is_path_select};
 ghost use Rattle.link.specs.Exchanges.{Grows, Plays, added, seen, selection_over};
 ghost use Rattle.loader.specs.Load as spec;
+ghost use Rattle.link.specs.Selected.{KeepsTrack};
+ghost use Rattle.loader.specs.declared.stage.LoadError.TheVariants as error;
 ghost use Rattle.loader.specs.declared.stage.Stage.TheVariants.{Fresh, Over};
 ghost use Rattle.loader.specs.Reading.{unspoiled};
 
 use crate::turning::{Turning, reading_command, refusal_behind, stage_behind};
-use crate::{LoadError, LoadTurn, Readings, Stage, completed_by, drop_spoiled, reading_of};
+use crate::{
+    LoadError, LoadTurn, Reading, Readings, Stage, completed_by, drop_spoiled, reading_of,
+};
 use apdu::{Command, Memory, Path, Response, Sequence};
 use arrayvec::ArrayVec;
 use card_model::{Slot, Step, Trail};
@@ -42,8 +47,10 @@ fn completed_behind(
     selected: Option<&Path>,
     readings: &mut Readings,
 ) -> Result<Option<CachedFile>, Memory>
-    ensures value { IfOk result (λ file. file ≡ spec.completed_behind answered.now (option_copied selected.entry) readings.old) }
-    ensures readings { OnOk result (readings.new ≡ spec.readings_behind answered.now (option_copied selected.entry) readings.old) }
+    ensures value { IfOk result (λ file. file
+        ≡ spec.completed_behind answered.now (option_copied selected.entry) readings.old) }
+    ensures readings { OnOk result (readings.new
+        ≡ spec.readings_exchanged (option_copied selected.entry) answered.now readings.old) }
 {
     match answered {
         None => Ok(None),
@@ -72,13 +79,6 @@ fn steps_from(trail: &Trail, from: usize) -> &[Step]
     &trail.as_slice()[from..]
 }
 
-// The first path that is not current.
-fn missing_of(cache: &Cache, paths: &[Path]) -> Option<Path>
-    ensures { result ≡ first_missing cache.now.files paths.now }
-{
-    Some(first_missing_file(cache.files(), paths)?.copy())
-}
-
 impl LoadJob {
     pub fn begin(alloc: Global, paths: ArrayVec<Path, 8>) -> LoadJob
         ensures { result ≡ record { paths = paths.items; readings = [] } }
@@ -90,10 +90,28 @@ impl LoadJob {
         }
     }
 
-    /// Drops the readings of what an event of others moved or wrote; they begin anew. `selected` was current on the basic channel before
-    /// that event. This takes no memory.
+    /// The readings under way.
+    pub fn readings(&self) -> &[Reading]
+        ensures { result.now ≡ self.now.readings }
+    {
+        self.readings.as_slice()
+    }
+
+    /// The first path that is not current.
+    pub fn wants_file(&self, cache: &Cache) -> Option<Path>
+        ensures { result ≡ first_missing cache.now.files self.now.paths }
+    {
+        let paths = self.paths.as_slice();
+        Some(first_missing_file(cache.files(), paths)?.copy())
+    }
+
+    /// Drops the readings of what an event of others moved or wrote; they begin anew. `selected`
+    /// was current on the basic channel before that event. This takes no memory.
     pub fn forget(&mut self, touch: &Touch, selected: Option<&Path>)
-        ensures { self.new ≡ record self.old { readings = unspoiled touch.now (option_copied selected.entry) self.old.readings } }
+        ensures { self.new ≡ record self.old {
+          readings = unspoiled touch.now
+              (option_copied selected.entry) self.old.readings;
+        } }
     {
         drop_spoiled(self.alloc, touch, selected, &mut self.readings);
     }
@@ -109,7 +127,8 @@ impl LoadJob {
         requires { turning.old.events + 1 < 2 ^ 64 }
         ensures events { OnOk result (turning.new.events ≡ turning.old.events + 1) }
         ensures load { OnOk result (spec.load_of turning.new cache.new.files self.new.readings
-            ≡ spec.load_by path.now command.now (Ok response.now) (spec.load_of turning.old cache.old.files self.old.readings)) }
+            ≡ spec.load_by path.now command.now (Ok response.now)
+            (spec.load_of turning.old cache.old.files self.old.readings)) }
         ensures paths { self.new.paths ≡ self.old.paths }
         ensures bound { highest_version cache.new.places ≡ highest_version cache.old.places }
     {
@@ -136,7 +155,8 @@ impl LoadJob {
         requires { turning.old.events + 1 < 2 ^ 64 }
         ensures events { OnOk result (turning.new.events ≡ turning.old.events + 1) }
         ensures load { OnOk result (spec.load_of turning.new cache.new.files self.new.readings
-            ≡ spec.load_by path.now step.now.command step.now.outcome (spec.load_of turning.old cache.old.files self.old.readings)) }
+            ≡ spec.load_by path.now step.now.command step.now.outcome
+            (spec.load_of turning.old cache.old.files self.old.readings)) }
         ensures paths { self.new.paths ≡ self.old.paths }
         ensures bound { highest_version cache.new.places ≡ highest_version cache.old.places }
     {
@@ -152,6 +172,7 @@ impl LoadJob {
             }
         }
     }
+
     fn follow_steps(
         &mut self,
         path: &Path,
@@ -162,7 +183,8 @@ impl LoadJob {
         requires { turning.old.events + length steps.now < 2 ^ 64 }
         ensures events { OnOk result (turning.new.events ≡ turning.old.events + length steps.now) }
         ensures load { OnOk result (spec.load_of turning.new cache.new.files self.new.readings
-            ≡ spec.load_after path.now steps.now (spec.load_of turning.old cache.old.files self.old.readings)) }
+            ≡ spec.load_after path.now steps.now
+            (spec.load_of turning.old cache.old.files self.old.readings)) }
         ensures paths { self.new.paths ≡ self.old.paths }
         ensures bound { highest_version cache.new.places ≡ highest_version cache.old.places }
     {
@@ -185,17 +207,24 @@ impl LoadJob {
         requires room { length trail.old ≤ 12 }
         requires events { turning.old.events + 4 < 2 ^ 64 }
         requires chain { turning.old.chain ≡ None }
-        requires due { spec.load_due path.now (spec.load_of turning.old cache.old.files self.old.readings) ≡ Some command.now }
+        requires due { spec.load_due path.now
+            (spec.load_of turning.old cache.old.files self.old.readings) ≡ Some command.now }
         ensures trail { Grows 4 trail.old trail.new }
         ensures slot { Plays (seen (S.world slot.old) (S.plan slot.old) (S.faults slot.old))
             (added trail.old trail.new)
             (seen (S.world slot.new) (S.plan slot.new) (S.faults slot.new)) }
-        ensures due { spec.AreDue path.now (added trail.old trail.new) (spec.load_of turning.old cache.old.files self.old.readings) }
+        ensures due { spec.AreDue path.now (added trail.old trail.new)
+            (spec.load_of turning.old cache.old.files self.old.readings) }
         ensures load { OnOk result (spec.load_of turning.new cache.new.files self.new.readings
-            ≡ spec.load_after path.now (added trail.old trail.new) (spec.load_of turning.old cache.old.files self.old.readings)) }
+            ≡ spec.load_after path.now (added trail.old trail.new)
+            (spec.load_of turning.old cache.old.files self.old.readings)) }
         ensures chain { OnOk result (turning.new.chain ≡ None) }
         ensures reads { OnOk result (spec.IsReadNext turning.new.stage) }
-        ensures over { OnOk result (is_path_select command.now ≡ false → turning.new.stage ≡ Over) }
+        ensures over { OnOk result (is_path_select command.now ≡ false → turning.new.stage
+            ≡ Over) }
+        ensures later { S.faults slot.old ≤ S.faults slot.new }
+        ensures fault { OnOk result (turning.new.refused
+            ≡ Some error.Slot → Rose (S.faults slot.old) (S.faults slot.new)) }
         ensures events { OnOk result (turning.new.events ≤ turning.old.events + 4) }
         ensures paths { self.new.paths ≡ self.old.paths }
         ensures bound { highest_version cache.new.places ≡ highest_version cache.old.places }
@@ -222,10 +251,16 @@ impl LoadJob {
         ensures slot { Plays (seen (S.world slot.old) (S.plan slot.old) (S.faults slot.old))
             (added trail.old trail.new)
             (seen (S.world slot.new) (S.plan slot.new) (S.faults slot.new)) }
-        ensures due { spec.AreDue path.now (added trail.old trail.new) (spec.load_of turning.old cache.old.files self.old.readings) }
+        ensures due { spec.AreDue path.now (added trail.old trail.new)
+            (spec.load_of turning.old cache.old.files self.old.readings) }
         ensures load { OnOk result (spec.load_of turning.new cache.new.files self.new.readings
-            ≡ spec.load_after path.now (added trail.old trail.new) (spec.load_of turning.old cache.old.files self.old.readings)) }
-        ensures over { OnOk result (spec.load_due path.now (spec.load_of turning.new cache.new.files self.new.readings) ≡ None) }
+            ≡ spec.load_after path.now (added trail.old trail.new)
+            (spec.load_of turning.old cache.old.files self.old.readings)) }
+        ensures later { S.faults slot.old ≤ S.faults slot.new }
+        ensures fault { OnOk result (turning.new.refused
+            ≡ Some error.Slot → Rose (S.faults slot.old) (S.faults slot.new)) }
+        ensures over { OnOk result (spec.load_due path.now
+            (spec.load_of turning.new cache.new.files self.new.readings) ≡ None) }
         ensures paths { self.new.paths ≡ self.old.paths }
         ensures bound { highest_version cache.new.places ≡ highest_version cache.old.places }
     {
@@ -238,8 +273,9 @@ impl LoadJob {
         self.send(slot, path, &read, turning, cache, trail)
     }
 
-    /// Reads on by at most one READ: that of the first path that is not current, behind the SELECT that it needs. `events` is how many events
-    /// there were before. A job that refuses is not turned again.
+    /// Reads on by at most one READ: that of the first path that is not current, behind the SELECT
+    /// that it needs. `events` is how many events there were before. A job that refuses is not
+    /// turned again.
     pub fn turn<S: Slot>(
         &mut self,
         slot: &mut S,
@@ -254,24 +290,31 @@ impl LoadJob {
         ensures slot { Plays (seen (S.world slot.old) (S.plan slot.old) (S.faults slot.old))
             (added trail.old trail.new)
             (seen (S.world slot.new) (S.plan slot.new) (S.faults slot.new)) }
-        ensures due { spec.IsDue (first_missing cache.old.files self.old.paths) (added trail.old trail.new)
+        ensures due { spec.IsDue (first_missing cache.old.files self.old.paths)
+            (added trail.old trail.new)
             (spec.load_begun selection.old cache.old.files self.old.readings events) }
-        ensures selection { selection.new ≡ selection_over (added trail.old trail.new) selection.old }
+        ensures selection { selection.new
+            ≡ selection_over (added trail.old trail.new) selection.old }
+        ensures tracked { KeepsTrack (S.world slot.old)
+            (S.world slot.new) selection.old selection.new }
+        ensures cause { spec.FaultHasCause (S.faults slot.old) (S.faults slot.new) result }
         ensures done { spec.HadMemory result (spec.HasTurned
             (first_missing cache.old.files self.old.paths) self.old.paths
-            (spec.load_behind (first_missing cache.old.files self.old.paths) (added trail.old trail.new)
-                (spec.load_begun selection.old cache.old.files self.old.readings events))
+            (spec.load_behind (first_missing cache.old.files self.old.paths)
+            (added trail.old trail.new)
+            (spec.load_begun selection.old cache.old.files self.old.readings events))
             cache.new.files self.new.readings result) }
         ensures paths { self.new.paths ≡ self.old.paths }
         ensures bound { highest_version cache.new.places ≡ highest_version cache.old.places }
     {
         let from = trail.len();
-        let turned = self.turned(slot, selection, cache, events, trail);
+        let turned = self.read_missing(slot, selection, cache, events, trail);
         selection.follow_steps(steps_from(trail, from));
         turned
     }
 
-    fn turned<S: Slot>(
+    // Reads the first path that is not current on, and says what that comes to.
+    fn read_missing<S: Slot>(
         &mut self,
         slot: &mut S,
         selection: &Selection,
@@ -285,17 +328,20 @@ impl LoadJob {
         ensures slot { Plays (seen (S.world slot.old) (S.plan slot.old) (S.faults slot.old))
             (added trail.old trail.new)
             (seen (S.world slot.new) (S.plan slot.new) (S.faults slot.new)) }
-        ensures due { spec.IsDue (first_missing cache.old.files self.old.paths) (added trail.old trail.new)
+        ensures due { spec.IsDue (first_missing cache.old.files self.old.paths)
+            (added trail.old trail.new)
             (spec.load_begun selection.now cache.old.files self.old.readings events) }
+        ensures cause { spec.FaultHasCause (S.faults slot.old) (S.faults slot.new) result }
         ensures done { spec.HadMemory result (spec.HasTurned
             (first_missing cache.old.files self.old.paths) self.old.paths
-            (spec.load_behind (first_missing cache.old.files self.old.paths) (added trail.old trail.new)
-                (spec.load_begun selection.now cache.old.files self.old.readings events))
+            (spec.load_behind (first_missing cache.old.files self.old.paths)
+            (added trail.old trail.new)
+            (spec.load_begun selection.now cache.old.files self.old.readings events))
             cache.new.files self.new.readings result) }
         ensures paths { self.new.paths ≡ self.old.paths }
         ensures bound { highest_version cache.new.places ≡ highest_version cache.old.places }
     {
-        let Some(path) = missing_of(cache, self.paths.as_slice()) else {
+        let Some(path) = self.wants_file(cache) else {
             return self.answer(None, cache);
         };
         let mut turning = Turning {

@@ -14,5 +14,5 @@ pub use ending::{completed_by, has_bad_fcp, refused_by, tells_no_file};
 pub use job::LoadJob;
 pub use reading::{Reading, Readings, RefusedReading};
 pub use readings::{drop_spoiled, read_on, reading_at, reading_of};
-pub use stage::{LoadError, LoadTurn, Stage};
 pub use reads::{is_readable, read_number, reads_needed};
+pub use stage::{LoadError, LoadTurn, Stage};

@@ -1,5 +1,5 @@
 // A file that is being read.
-ghost use Rattle.std.specs.Prelude.{◌≡◌, ◌≤◌, ◌<◌, ◌+◌, ◌++◌, ◌∷◌, [], true, IfOk, take, length};
+ghost use Rattle.std.specs.Prelude.{◌≡◌, ◌≤◌, ◌<◌, ◌+◌, ◌++◌, ◌∷◌, [], true, None, IsOk, IfOk, take, length};
 ghost use Rattle.apdu.specs.Words.{filled_to};
 ghost use Rattle.fcp.specs.Buffer.{rows_of};
 ghost use Rattle.loader.specs.Buffer as buffer;
@@ -15,7 +15,8 @@ use link::{Final, named_path};
 use std::alloc::Global;
 use std::marker::Model;
 
-/// A file that is being read, whose READs can be written as commands. Memory for all of it is there from its SELECT on.
+/// A file that is being read, whose READs can be written as commands. Memory for all of it is
+/// there from its SELECT on.
 #[derive(Drop)]
 pub struct Reading {
     path: Path,
@@ -76,7 +77,8 @@ fn content_of(alloc: Global, control: &Fcp, count: usize, bytes: Bytes) -> Rows
     requires within { count ≤ spec.reads_needed control.now }
     requires whole { length bytes ≡ buffer.len_of_rows control.now count }
     requires readable { values.is_readable control.now ≡ true }
-    ensures { result ≡ spec.content_by control.now.kind control.now.width (rows_of count (buffer.row_len control.now) bytes) }
+    ensures { result ≡ spec.content_by control.now.kind control.now.width (rows_of count
+        (buffer.row_len control.now) bytes) }
 {
     let _count = control.count;
     match control.kind {
@@ -89,7 +91,8 @@ fn content_of(alloc: Global, control: &Fcp, count: usize, bytes: Bytes) -> Rows
 impl Reading {
     /// The reading that a SELECT begins, where it asks for the control parameters and gets them.
     pub fn begun(alloc: Global, answered: &Final) -> Result<Option<Reading>, Memory>
-        ensures { IfOk result (λ g. g ≡ spec.begun answered.now) }
+        ensures value { IfOk result (λ g. g ≡ spec.begun answered.now) }
+        ensures room { spec.begun answered.now ≡ None → IsOk result }
     {
         if !answered.response.sw.is_success() {
             return Ok(None);
@@ -145,7 +148,8 @@ impl Reading {
         }
     }
 
-    /// The reading behind a READ: the next one that succeeds takes it one further, and any other ends it. This takes no memory.
+    /// The reading behind a READ: the next one that succeeds takes it one further, and any other
+    /// ends it. This takes no memory.
     pub fn further(self, answered: &Final) -> Option<Reading>
         ensures { result ≡ spec.further answered.now self }
     {
@@ -162,8 +166,12 @@ impl Reading {
 
     fn with_row(self, le: Option<u16>, body: &[u8]) -> Reading
         requires left { length self.rows < spec.reads_needed self.control }
-        requires asked { spec.asked_len le ≡ spec.asked_len (spec.read_number self.control (length self.rows)).le }
-        ensures { result ≡ record self { rows = self.rows ++ take (spec.asked_len le) (filled_to 0xFF (spec.asked_len le) body.now) ∷ [] } }
+        requires asked { spec.asked_len le
+            ≡ spec.asked_len (spec.read_number self.control (length self.rows)).le }
+        ensures { result ≡ record self {
+          rows = self.rows ++ take (spec.asked_len le)
+              (filled_to 0xFF (spec.asked_len le) body.now) ∷ [];
+        } }
     {
         let mut g = self;
         append_row(asked_len(le), body, &mut g.bytes);
@@ -171,7 +179,8 @@ impl Reading {
         g
     }
 
-    /// The file of a reading that is complete; a directory counts as a file without rows. This takes no memory.
+    /// The file of a reading that is complete; a directory counts as a file without rows. This
+    /// takes no memory.
     pub fn into_file(self, alloc: Global) -> CachedFile
         ensures { result ≡ spec.file_read self }
     {

@@ -25,10 +25,7 @@ pub fn reading_of<'a>(path: &Path, readings: &'a [Reading]) -> Option<&'a Readin
 }
 
 /// The reading of the selected file.
-pub fn reading_at<'a>(
-    selected: Option<&Path>,
-    readings: &'a [Reading],
-) -> Option<&'a Reading>
+pub fn reading_at<'a>(selected: Option<&Path>, readings: &'a [Reading]) -> Option<&'a Reading>
     ensures { option_copied result ≡ spec.reading_at (option_copied selected.entry) readings.now }
 {
     match selected {
@@ -54,7 +51,8 @@ fn take_out(path: &Path, readings: &mut Reserved<Reading>) -> Option<Reading>
 
 fn take_selected(selected: Option<&Path>, readings: &mut Reserved<Reading>) -> Option<Reading>
     ensures taken { result ≡ spec.reading_at (option_copied selected.entry) readings.old.items }
-    ensures rest { readings.new.items ≡ spec.without_reading (option_copied selected.entry) readings.old.items }
+    ensures rest { readings.new.items
+        ≡ spec.without_reading (option_copied selected.entry) readings.old.items }
     ensures room { IfSome result (λ g. readings.new.spare ≡ readings.old.spare + 1) }
     ensures grows { readings.old.spare ≤ readings.new.spare }
 {
@@ -91,7 +89,9 @@ fn begin(
 ) -> Result<Option<Reading>, Memory>
     requires { commands.is_reading_select answered.now.command ≡ true }
     ensures value { IfOk result (λ done. done ≡ spec.complete_one (spec.begun answered.now)) }
-    ensures ok { OnOk result (readings.new.items ≡ spec.with_reading (spec.begun answered.now) (spec.without_reading (commands.named_path answered.now.command) readings.old.items)) }
+    ensures ok { OnOk result (readings.new.items
+        ≡ spec.with_reading (spec.begun answered.now) (spec.without_reading
+        (commands.named_path answered.now.command) readings.old.items)) }
     ensures err { OnErr result (readings.new.items ≡ readings.old.items) }
 {
     let g = Reading::begun(alloc, answered)?;
@@ -106,8 +106,13 @@ fn go_on(
     selected: Option<&Path>,
     readings: &mut Reserved<Reading>,
 ) -> Option<Reading>
-    ensures value { result ≡ spec.complete_one (option_and_then (spec.further answered.now) (spec.reading_at (option_copied selected.entry) readings.old.items)) }
-    ensures rest { readings.new.items ≡ spec.with_reading (option_and_then (spec.further answered.now) (spec.reading_at (option_copied selected.entry) readings.old.items)) (spec.without_reading (option_copied selected.entry) readings.old.items) }
+    ensures value { result
+        ≡ spec.complete_one (option_and_then (spec.further answered.now) (spec.reading_at
+        (option_copied selected.entry) readings.old.items)) }
+    ensures rest { readings.new.items
+        ≡ spec.with_reading (option_and_then (spec.further answered.now) (spec.reading_at
+        (option_copied selected.entry) readings.old.items)) (spec.without_reading
+        (option_copied selected.entry) readings.old.items) }
 {
     let g = take_selected(selected, readings)?;
     put_back(g.further(answered), readings)
@@ -119,8 +124,11 @@ fn read_on_in(
     selected: Option<&Path>,
     readings: &mut Reserved<Reading>,
 ) -> Result<Option<Reading>, Memory>
-    ensures value { IfOk result (λ done. done ≡ spec.complete_one (spec.reading_after answered.now (option_copied selected.entry) readings.old.items)) }
-    ensures ok { OnOk result (readings.new.items ≡ spec.readings_after answered.now (option_copied selected.entry) readings.old.items) }
+    ensures value { IfOk result (λ done. done
+        ≡ spec.complete_one (spec.reading_after answered.now
+        (option_copied selected.entry) readings.old.items)) }
+    ensures ok { OnOk result (readings.new.items
+        ≡ spec.readings_after answered.now (option_copied selected.entry) readings.old.items) }
     ensures err { OnErr result (readings.new.items ≡ readings.old.items) }
     ensures room { commands.is_reading_select answered.now.command ≡ false → IsOk result }
 {
@@ -133,16 +141,19 @@ fn read_on_in(
     }
 }
 
-/// Leads a job's readings on by a command of its own that was answered, and hands out the reading that it completed.
-/// `selected` is current on the basic channel.
+/// Leads a job's readings on by a command of its own that was answered, and hands out the reading
+/// that it completed. `selected` is current on the basic channel.
 pub fn read_on(
     alloc: Global,
     answered: &Final,
     selected: Option<&Path>,
     readings: &mut Readings,
 ) -> Result<Option<Reading>, Memory>
-    ensures value { IfOk result (λ done. done ≡ spec.complete_one (spec.reading_after answered.now (option_copied selected.entry) readings.old)) }
-    ensures ok { OnOk result (readings.new ≡ spec.readings_after answered.now (option_copied selected.entry) readings.old) }
+    ensures value { IfOk result (λ done. done
+        ≡ spec.complete_one (spec.reading_after answered.now
+        (option_copied selected.entry) readings.old)) }
+    ensures ok { OnOk result (readings.new
+        ≡ spec.readings_after answered.now (option_copied selected.entry) readings.old) }
     ensures err { OnErr result (readings.new ≡ readings.old) }
     ensures room { commands.is_reading_select answered.now.command ≡ false → IsOk result }
 {
@@ -153,7 +164,8 @@ pub fn read_on(
 }
 
 fn keep_unspoiled(touch: &Touch, selected: Option<&Path>, readings: &mut Vec<Reading>)
-    ensures { readings.new.items ≡ spec.unspoiled touch.now (option_copied selected.entry) readings.old.items }
+    ensures { readings.new.items
+        ≡ spec.unspoiled touch.now (option_copied selected.entry) readings.old.items }
 {
     readings.retain(|g| !touch.spoils(selected, g.path()));
 }

@@ -9,8 +9,11 @@ use arrayvec::ArrayVec;
 use fcp::{Fcp, FileKind};
 
 const PIECE: usize = 255;
+
 const READ_BINARY: u8 = 0xB0;
+
 const READ_RECORD: u8 = 0xB2;
+
 const ABSOLUTE: u8 = 0x04;
 
 /// How many READs a file takes.
@@ -59,7 +62,11 @@ fn read_piece(control: &Fcp, i: usize) -> Command
         p1: (at / 256) as u8,
         p2: (at % 256) as u8,
         body: ArrayVec::new(),
-        le: Some(if left < PIECE { left as u16 } else { PIECE as u16 }),
+        le: Some(if left < PIECE {
+            left as u16
+        } else {
+            PIECE as u16
+        }),
     }
 }
 

@@ -1,5 +1,6 @@
 -- The text of a report: one line for each of its lines, words separated by one space, each line ended by a line feed.
-use Rattle.std.specs.Prelude.{ℕ, Bool, true, false, List, [], ◌∷◌, ◌++◌, Option, Some, None, codes, decimal}
+use Rattle.std.specs.Prelude.{◌≡◌, ℕ, Bool, true, false, List, [], ◌∷◌, ◌++◌, flat_map, Option, Some, None, codes, decimal, String, string_bytes}
+use Rattle.std.specs.declared.alloc.Global.{Global}
 use Rattle.std.specs.Fmt.{radix_digits}
 use Rattle.hex.specs.Hex.{encode_upper}
 use Rattle.apdu.specs.Words.{two_bytes}
@@ -15,6 +16,10 @@ use Rattle.report.specs.declared.answer.Answer.TheVariants as answer
 use Rattle.report.specs.declared.line.Line.{Line}
 use Rattle.report.specs.declared.line.Line.TheVariants as line
 use Rattle.report.specs.declared.lines.Report.{Report}
+
+-- the words are put behind a text
+abbrev pub Puts : String Global → String Global → List ℕ → Type 0
+Puts before after words = string_bytes after ≡ string_bytes before ++ words
 
 -- ---- words of lines; each but the first begins with the space before it
 
@@ -36,27 +41,30 @@ optional_text None = codes " -"
 optional_text (Some n) = number_text n
 
 abbrev pub numbers_text : List ℕ → List ℕ
-numbers_text [] = []
-numbers_text (n ∷ numbers) = number_text n ++ numbers_text numbers
+numbers_text = flat_map number_text
 
 abbrev pub shown_text : List (Option ℕ) → List ℕ
-shown_text [] = []
-shown_text (n ∷ numbers) = optional_text n ++ shown_text numbers
+shown_text = flat_map optional_text
 
-abbrev pub behind_comma : List ℕ → List ℕ
-behind_comma [] = []
-behind_comma (row ∷ rows) = codes "," ++ decimal row ++ behind_comma rows
+abbrev pub comma_text : ℕ → List ℕ
+comma_text row = codes "," ++ decimal row
 
 -- rows joined by commas, or `-` for none
 abbrev pub rows_text : List ℕ → List ℕ
 rows_text [] = codes " -"
-rows_text (row ∷ rows) = number_text row ++ behind_comma rows
+rows_text (row ∷ rows) = number_text row ++ flat_map comma_text rows
 
 abbrev pub unsure_text : Bool → List ℕ
 unsure_text true = codes " unsure"
 unsure_text false = []
 
 -- ---- answers
+
+abbrev pub status_text : ℕ → ℕ → List ℕ
+status_text sw n = codes " status" ++ hex_text (two_bytes sw) ++ number_text n
+
+abbrev pub notices_text : ℕ → List ℕ → List ℕ
+notices_text dropped numbers = codes " notices" ++ number_text dropped ++ numbers_text numbers
 
 abbrev pub answer_text : Answer → List ℕ
 answer_text answer.Moved = codes " moved"
@@ -65,7 +73,7 @@ answer_text answer.SlotEmpty = codes " slot-empty"
 answer_text answer.ArmFull = codes " arm-full"
 answer_text answer.Absent = codes " absent"
 answer_text (answer.EpochEnded e n unsure) = codes " epoch-ended" ++ number_text e ++ number_text n ++ unsure_text unsure
-answer_text (answer.Status sw n) = codes " status" ++ hex_text (two_bytes sw.0) ++ number_text n
+answer_text (answer.Status sw n) = status_text sw.0 n
 answer_text (answer.Loop n) = codes " loop" ++ number_text n
 answer_text (answer.BadFcp n) = codes " bad-fcp" ++ number_text n
 answer_text (answer.Loaded k) = codes " loaded" ++ number_text k
@@ -91,7 +99,7 @@ answer_text answer.Ended = codes " ended"
 answer_text answer.Polled = codes " polled"
 answer_text (answer.Look seen) = codes " look" ++ number_text seen.count ++ shown_text seen.shown
 answer_text answer.Watching = codes " watching"
-answer_text (answer.Notices dropped numbers) = codes " notices" ++ number_text dropped ++ numbers_text numbers.items
+answer_text (answer.Notices dropped numbers) = notices_text dropped numbers.items
 
 -- ---- parts of lines
 

@@ -1,366 +1,337 @@
--- Over legal lines the updates of an attempt are those of the plan for the card as it was before its first update.
-use Rattle.std.proofs.Common.{◌≡◌, ℕ, zero, suc, ◌==◌, ◌&&◌, Bool, true, false, nat_lt, if◌then◌else◌, List, [], ◌∷◌, Option, Some, None, is_some, refl, sym, ap, ◌∙◌, subst, arith, true≢false}
-use Rattle.std.specs.Prelude.{option_map, slice_get}
-use Rattle.std.specs.Cmp.Lexicographic.{same_text}
-use Rattle.std.proofs.lemmas.Bool.{eqb-true}
-use Rattle.apdu.specs.Values.{CommandValue}
-use Rattle.apdu.specs.Words.{has_value, or_else, same_bytes, same_number}
-use Rattle.apdu.specs.Apdu.{is_update_ins}
+-- Where an attempt begins, its plan is that for the card in the slot.
+use Rattle.std.proofs.Common.{◌≡◌, ℕ, zero, suc, ◌-◌, ◌==◌, Bool, true, false, ◌&&◌, ◌||◌, if◌then◌else◌, Option, Some, None, List, [], ◌∷◌, ◌++◌, refl, ap, sym, ◌∙◌, subst, true≢false}
+use Rattle.std.specs.List.{filter_map, cons_option}
+use Rattle.std.specs.Prelude.{not, is_some, is_none, nat_lt, slice_get, option_map, option_and_then, unwrap_or, Result, Ok, Err}
+use Rattle.std.proofs.lemmas.Bool.{and_parts, and_from, eqb-true}
+use Rattle.apdu.specs.Words.{is_one_of}
+use Rattle.fcp.specs.Content.{Content, missing}
+use Rattle.fcp.specs.declared.control.ArrRef.{ArrRef}
+use Rattle.fcp.specs.declared.rule.Rule.{Rule}
 use Rattle.adn.specs.declared.edit.Edit.{Edit}
-use Rattle.adn.specs.declared.edit.RowUpdate.{RowUpdate}
-use Rattle.card_model.specs.declared.world.World.{World}
+use Rattle.adn.specs.declared.edit.Plan.{Plan}
+use Rattle.adn.specs.declared.edit.PlanError.{PlanError}
+use Rattle.card_model.specs.declared.world.FileState.{FileState}
+use Rattle.card_model.specs.declared.world.CardState.{CardState}
+use Rattle.card_model.specs.Card.{file_at, file_of, rows_of, rule_file_path, rule_of_record, record_at, is_in_application, usim_of}
+use Rattle.card_effects.proofs.Same.{same_bytes_is}
 use Rattle.script_reader.specs.declared.types.Script.{Script}
 use Rattle.script_reader.specs.declared.types.Operation.{Operation}
 use Rattle.script_reader.specs.declared.types.Operation.TheVariants as operation
-use Rattle.report.specs.declared.line.Mode.{Mode}
 use Rattle.report.specs.declared.line.Line.{Line}
 use Rattle.report.specs.declared.line.Line.TheVariants as line
-use Rattle.families.specs.Plans.{plan_updates}
-use Rattle.link.specs.declared.chain.Chain.{Chain}
-use Rattle.epoch_cache.specs.declared.cached.Touch.{Touch}
-use Rattle.epoch_cache.specs.Cache.{moves_one}
+use Rattle.families.specs.Families.{View, phonebook, fixed, family_paths, family_path, family_plan}
+use Rattle.families.specs.Plans.{plan_edit, plan_updates}
+use Rattle.epoch_cache.specs.declared.cached.CachedFile.{CachedFile}
+use Rattle.epoch_cache.specs.Cache.{is_of, taken, is_current, all_current, first_missing, view_of_files}
 use Rattle.editor.specs.declared.editing.Attempt.{Attempt}
 use Rattle.editor.specs.declared.editing.Decided.{Decided}
+use Rattle.editor.specs.declared.editing.Editing.{Editing}
 use Rattle.rules.specs.declared.kept.Begun.{Begun}
-use Rattle.rules.specs.declared.kept.Job.{Job}
+use Rattle.rules.specs.declared.kept.Decision.{Decision}
 use Rattle.rules.specs.declared.kept.Kept.{Kept}
-use Rattle.editor.specs.Editing.{attempt_behind, moved_attempt, with_attempt}
-use Rattle.rules.specs.Editing.{attempt_of, family_edit}
-use Rattle.rules.specs.Kept.{begun_of, begun_operation, operation_at, operation_now}
-use Rattle.rules.specs.Work.{work_of_operation}
-use Rattle.rules.specs.After.{is_raw, job_beside, fresh_begun, own_job, decision_of_begun, decision_at, facts_of, kept_of}
-use Rattle.rules.specs.State.{world_of, state_of}
-use Rattle.rules.specs.Rules.{EditTurn, edit_turn_by, edit_turn_of, edit_turn_at, edit_turn, card_updates, same_update, same_updates, is_planned_right, is_next_update, may_update, is_ordered, is_sent_right, is_book_right, is_lost_book_right, is_outside_raw, is_update_right, is_lost_update_right, world_failed, has_right_edit, is_turn_of, is_command_right}
-use Rattle.rules.specs.Legal.{Tests, all_pass, changed_in, line_tests, is_legal_line, are_legal_lines}
-use Rattle.rules.specs.LookingBack.{is_job_border, is_start_of, attempt_begun, is_new_update, sends_update, attempt_since, updates_sent, was_moved, turn_updates, updates_planned}
-use Rattle.rules.specs.Laws.{as_of, PlansForTheCard}
-use Rattle.rules.proofs.States.{state_world, state_kept}
-use Rattle.rules.proofs.Tracked.{first_and, rest_and}
-use Rattle.rules.proofs.Attempts.{Before, before, behind_job, same_begun, decided_in, more_sent, fresh, attempt_line, tells, first_jobs}
+use Rattle.rules.specs.declared.kept.Work.{Work}
+use Rattle.rules.specs.declared.kept.Work.TheVariants.{Rests as rests, Refuses as refuses, Lacks as lacks, Sends as sends, Reads as reads, Writes as writes, Resets as resets, Happens as happens}
+use Rattle.rules.specs.History.{lives_in}
+use Rattle.rules.specs.Kept.{begun_operation, begun_of, operation_now, operation_at}
+use Rattle.editor.specs.Editing.{next_update, owed_update, rule_path, path_of_rule, edit_paths, planned, row_from_one, need_by_rule, need_of_taken, update_need, need_of_file, card_need}
+use Rattle.rules.specs.Editing.{first_lack}
+use Rattle.rules.specs.Work.{decides, reads_first, begins_plan, plans, attempts, undecided_work, decided_work, edit_work, work_of_edit, work_of_operation}
+use Rattle.rules.specs.After.{edit_of, fresh_begun, decision_of_begun, decision_at}
+use Rattle.rules.specs.Agreement.{is_application, FileTrue, FilesTrue, arr_at, edit_at, is_planned, IsPlanned}
+use Rattle.rules.proofs.Publishing.{current-agrees}
+use Rattle.rules.proofs.Told.{card_agrees}
+use Rattle.rules.proofs.Truth.{found_path, find_passes}
 
--- ---- updates that are found the same are the same
+-- ---- what a decision stands on
 
-row_same : (u v : RowUpdate) → same_update u v ≡ true → u ≡ v
-row_same u v h =
-    let rest : (u.row == v.row) && same_bytes u.bytes v.bytes ≡ true = rest_and (u.file == v.file) ((u.row == v.row) && same_bytes u.bytes v.bytes) h in
-    by_fields
-    (eqb-true u.file v.file (first_and (u.file == v.file) ((u.row == v.row) && same_bytes u.bytes v.bytes) h))
-    (eqb-true u.row v.row (first_and (u.row == v.row) (same_bytes u.bytes v.bytes) rest))
-    (same_text u.bytes v.bytes (sym (rest_and (u.row == v.row) (same_bytes u.bytes v.bytes) rest)))
-  where
-    by_fields : u.file ≡ v.file → u.row ≡ v.row → u.bytes ≡ v.bytes → u ≡ v
-    by_fields a b c =
-        ap (λ (n : ℕ). record { file = n; row = u.row; bytes = u.bytes }) a
-        ∙ ap (λ (n : ℕ). record { file = v.file; row = n; bytes = u.bytes }) b
-        ∙ ap (λ (x : List ℕ). record { file = v.file; row = v.row; bytes = x }) c
+-- the framework has no operations
+framework_none : (s : Script) (b : Option Begun) → edit_of (begun_operation s zero b) ≡ None
+framework_none s None = refl
+framework_none s (Some b) = refl
 
-rows_same : (us vs : List RowUpdate) → same_updates us vs ≡ true → us ≡ vs
-rows_same [] [] h = refl
-rows_same [] (v ∷ vs) h = absurd (true≢false (sym h))
-rows_same (u ∷ us) [] h = absurd (true≢false (sym h))
-rows_same (u ∷ us) (v ∷ vs) h =
-    ap (λ (w : RowUpdate). w ∷ us) (row_same u v (first_and (same_update u v) (same_updates us vs) h))
-    ∙ ap (λ (ws : List RowUpdate). v ∷ ws) (rows_same us vs (rest_and (same_update u v) (same_updates us vs) h))
+abbrev made : Plan → Result Plan PlanError
+made plan = Ok plan
 
--- ---- a raw operation has no attempt
+abbrev refused : PlanError → Result Plan PlanError
+refused refusal = Err refusal
 
-raw_decides : (k : Kept) (actor : ℕ) (b : Begun) (op : Operation) → is_raw op ≡ true → (work_of_operation k actor b op).attempt ≡ None
-raw_decides k actor b (operation.Raw handle apdu) h = refl
-raw_decides k actor b op h = absurd (true≢false (sym h))
+-- no plan, or that for the files as they are kept, which are all current
+data Decides (k : Kept) (f : ℕ) (e : Edit) (d : Decision) : Type 0 where
+  elsewhere : is_planned d ≡ false → Decides k f e d
+  on_files : (actor : ℕ) → first_missing k.files (edit_paths k.files f) ≡ None → d ≡ plans k actor f e (edit_paths k.files f) → Decides k f e d
 
-raw_decision : (k : Kept) (actor : ℕ) (b : Option Begun) (op : Option Operation) → has_value is_raw op ≡ true → (decision_of_begun k actor b op).attempt ≡ None
-raw_decision k actor (Some b) (Some op) h = raw_decides k actor b op h
-raw_decision k actor (Some b) None h = refl
-raw_decision k actor None op h = refl
+module _ (k : Kept) (f : ℕ) (e : Edit) where
+  going : (b : Bool) → is_planned (decides (if b then writes else rests)) ≡ false
+  going true = refl
+  going false = refl
 
-abbrev RawRests : Script → ℕ → Option Begun → Type 0
-RawRests s i o = has_value is_raw (begun_operation s i o) ≡ true → attempt_of o ≡ None
+  attempts_by : (actor : ℕ) (o : Option Attempt) → first_missing k.files (edit_paths k.files f) ≡ None → Decides k f e (attempts k actor f e o (edit_paths k.files f))
+  attempts_by actor (Some a) q = elsewhere (going (is_some (next_update a)))
+  attempts_by actor None q = on_files actor q refl
 
-module _ (s : Script) (earlier : List Line) (i : ℕ) (x : Job) (here : slice_get (kept_of s earlier).jobs i ≡ Some x) where
-  abbrev now_beside : Line → Job
-  now_beside l = job_beside l (kept_of s earlier).history.epoch (facts_of s l (kept_of s earlier)) (kept_of s earlier).selected x
+  undecided_by : (actor : ℕ) (o : Option Attempt) (m : Option (List ℕ)) → first_missing k.files (edit_paths k.files f) ≡ m → Decides k f e (elim m [ Some path ↦ decides (reads path) | None ↦ attempts k actor f e o (edit_paths k.files f) ])
+  undecided_by actor o (Some path) q = elsewhere refl
+  undecided_by actor o None q = attempts_by actor o q
 
-  abbrev own_now : Line → Job
-  own_now l = own_job s l (kept_of s earlier) (facts_of s l (kept_of s earlier)) (decision_at s l (kept_of s earlier)).attempt (now_beside l)
+  reading : (m : Option (List ℕ)) → is_planned (decides (elim m [ None ↦ rests | Some path ↦ reads path ])) ≡ false
+  reading None = refl
+  reading (Some path) = refl
 
-  mapped : (f : Begun → Begun) → ((b : Begun) → (f b).index ≡ b.index) → (o : Option Begun) → begun_operation s i (option_map f o) ≡ begun_operation s i o
-  mapped f h None = refl
-  mapped f h (Some b) = ap (operation_at s i) (h b)
+  decided : (editing : Editing) (b : Bool) → is_planned (decides (if b then writes else reads_first k.files (family_paths f))) ≡ false
+  decided editing true = refl
+  decided editing false = reading (first_missing k.files (family_paths f))
 
-  own_same : (b : Bool) (z zs : Job) → begun_operation s i zs.begun ≡ begun_operation s i z.begun → begun_operation s i (if b then zs else z).begun ≡ begun_operation s i z.begun
-  own_same true z zs h = h
-  own_same false z zs h = refl
+  edit_by : (actor : ℕ) (editing : Editing) (d : Option Decided) → Decides k f e (elim d [ None ↦ undecided_work k actor f e editing.attempt | Some d ↦ decides (decided_work k f editing) ])
+  edit_by actor editing (Some d) = elsewhere (decided editing (is_some (owed_update true editing)))
+  edit_by actor editing None = undecided_by actor editing.attempt (first_missing k.files (edit_paths k.files f)) refl
 
-  not_own : (b : Bool) (z zs : Job) → b ≡ false → begun_operation s i (if b then zs else z).begun ≡ begun_operation s i z.begun
-  not_own true z zs h = absurd (true≢false h)
-  not_own false z zs h = refl
+  living_by : (actor : ℕ) (b : Begun) (t : Bool) → Decides k f e (elim t [ true ↦ edit_work k actor f e b.editing | false ↦ decides rests ])
+  living_by actor b false = elsewhere refl
+  living_by actor b true = edit_by actor b.editing b.editing.decided
 
-  beside_same : (l : Line) → begun_operation s i (now_beside l).begun ≡ begun_operation s i x.begun
-  beside_same l = mapped _ (λ b. refl) x.begun
+  work_by : (actor : ℕ) (b : Begun) (o : Option (ℕ × Edit)) → o ≡ Some (f, e) → Decides k f e (work_of_edit k actor b o)
+  work_by actor b o q = subst (λ (x : Option (ℕ × Edit)). Decides k f e (work_of_edit k actor b x)) (sym q) (living_by actor b (lives_in k.history b.epoch))
 
-  same_operation : (l : Line) → is_job_border i l ≡ false → begun_operation s i (behind_job s l (kept_of s earlier) i x).begun ≡ begun_operation s i x.begun
-  same_operation (line.Turn zero) h = own_same (zero == i) (now_beside (line.Turn zero)) (own_now (line.Turn zero)) refl ∙ beside_same (line.Turn zero)
-  same_operation (line.Turn (suc a)) h = own_same (suc a == i) (now_beside (line.Turn (suc a))) (own_now (line.Turn (suc a))) (mapped _ (λ b. refl) (now_beside (line.Turn (suc a))).begun) ∙ beside_same (line.Turn (suc a))
-  same_operation (line.Begin a j) h = not_own (a == i) (now_beside (line.Begin a j)) (own_now (line.Begin a j)) h ∙ beside_same (line.Begin a j)
-  same_operation (line.Exchange a c r) h = own_same (a == i) (now_beside (line.Exchange a c r)) (own_now (line.Exchange a c r)) (mapped _ (λ b. refl) (now_beside (line.Exchange a c r)).begun) ∙ beside_same (line.Exchange a c r)
-  same_operation (line.Failed a c d) h = own_same (a == i) (now_beside (line.Failed a c d)) (own_now (line.Failed a c d)) (mapped _ (λ b. refl) (now_beside (line.Failed a c d)).begun) ∙ beside_same (line.Failed a c d)
-  same_operation (line.Answered a j given) h = not_own (a == i) (now_beside (line.Answered a j given)) (own_now (line.Answered a j given)) h ∙ beside_same (line.Answered a j given)
-  same_operation (line.Reset a) h = beside_same (line.Reset a)
-  same_operation (line.ResetFailed a) h = beside_same (line.ResetFailed a)
-  same_operation (line.World a e) h = beside_same (line.World a e)
-  same_operation (line.Published n f e v text) h = beside_same (line.Published n f e v text)
-  same_operation (line.EpochEnd n e v) h = beside_same (line.EpochEnd n e v)
-  same_operation (line.Refused f n) h = beside_same (line.Refused f n)
+  operation_by : (actor : ℕ) (b : Begun) (op : Operation) → edit_of (Some op) ≡ Some (f, e) → Decides k f e (work_of_operation k actor b op)
+  operation_by actor b (operation.Set g at name number) q = work_by actor b (edit_of (Some (operation.Set g at name number))) q
+  operation_by actor b (operation.Clear g at) q = work_by actor b (edit_of (Some (operation.Clear g at))) q
+  operation_by actor b (operation.Insert card) q = absurd (cc)
+  operation_by actor b operation.Out q = absurd (cc)
+  operation_by actor b (operation.Arm change) q = absurd (cc)
+  operation_by actor b (operation.Load g) q = absurd (cc)
+  operation_by actor b (operation.OpenChannel handle aid) q = absurd (cc)
+  operation_by actor b (operation.Raw handle apdu) q = absurd (cc)
+  operation_by actor b (operation.Close handle) q = absurd (cc)
+  operation_by actor b (operation.Verify key pin) q = absurd (cc)
+  operation_by actor b (operation.End key) q = absurd (cc)
+  operation_by actor b operation.Poll q = absurd (cc)
+  operation_by actor b operation.Look q = absurd (cc)
+  operation_by actor b (operation.Watch mask) q = absurd (cc)
+  operation_by actor b operation.Notices q = absurd (cc)
 
-  now_here : (a : ℕ) → a ≡ i → operation_now s a (kept_of s earlier).jobs ≡ begun_operation s i x.begun
-  now_here a e = ap (λ n. operation_now s n (kept_of s earlier).jobs) e ∙ ap (begun_operation s i) (same_begun s (kept_of s earlier) i x here)
+  begun_by : (actor : ℕ) (b : Option Begun) (op : Option Operation) → edit_of op ≡ Some (f, e) → Decides k f e (decision_of_begun k actor b op)
+  begun_by actor b None q = absurd (cc)
+  begun_by actor None (Some op) q = elsewhere refl
+  begun_by actor (Some b) (Some op) q = operation_by actor b op q
 
-  none_either : {A : Type 0} (b : Bool) (o : Option A) → (b ≡ true → o ≡ None) → (if b then o else None) ≡ None
-  none_either true o h = h refl
-  none_either false o h = refl
+  line_by : (s : Script) (l : Line) → edit_at s l k ≡ Some (f, e) → Decides k f e (decision_at s l k)
+  line_by s (line.Turn zero) q = absurd (let n = framework_none s (begun_of zero k.jobs) in cc)
+  line_by s (line.Turn (suc n)) q = begun_by (suc n) (begun_of (suc n) k.jobs) (operation_now s (suc n) k.jobs) q
+  line_by s (line.Begin n i) q = begun_by n (Some (fresh_begun i k.history)) (operation_at s n i) q
+  line_by s (line.Exchange n c r) q = absurd (cc)
+  line_by s (line.Failed n c d) q = absurd (cc)
+  line_by s (line.Reset n) q = absurd (cc)
+  line_by s (line.ResetFailed n) q = absurd (cc)
+  line_by s (line.World n w) q = absurd (cc)
+  line_by s (line.Published n g v p text) q = absurd (cc)
+  line_by s (line.EpochEnd n v p) q = absurd (cc)
+  line_by s (line.Refused g n) q = absurd (cc)
+  line_by s (line.Answered n i given) q = absurd (cc)
 
-  -- no attempt begins in a turn of a raw operation
-  raw_begins : (l : Line) → is_job_border i l ≡ false → has_value is_raw (begun_operation s i x.begun) ≡ true → attempt_begun s i l earlier ≡ None
-  raw_begins (line.Turn zero) h raw = none_either (zero == i) (decision_at s (line.Turn zero) (kept_of s earlier)).attempt (λ e. refl)
-  raw_begins (line.Turn (suc a)) h raw =
-      none_either (suc a == i) (decision_at s (line.Turn (suc a)) (kept_of s earlier)).attempt
-      (λ e. raw_decision (kept_of s earlier) (suc a) (begun_of (suc a) (kept_of s earlier).jobs) (operation_now s (suc a) (kept_of s earlier).jobs) (ap (has_value is_raw) (now_here (suc a) (eqb-true (suc a) i e)) ∙ raw))
-  raw_begins (line.Begin a j) h raw = none_either (a == i) (decision_at s (line.Begin a j) (kept_of s earlier)).attempt (λ e. absurd (true≢false (sym e ∙ h)))
-  raw_begins (line.Exchange a c r) h raw = refl
-  raw_begins (line.Failed a c d) h raw = refl
-  raw_begins (line.Answered a j given) h raw = refl
-  raw_begins (line.Reset a) h raw = refl
-  raw_begins (line.ResetFailed a) h raw = refl
-  raw_begins (line.World a e) h raw = refl
-  raw_begins (line.Published n f e v text) h raw = refl
-  raw_begins (line.EpochEnd n e v) h raw = refl
-  raw_begins (line.Refused f n) h raw = refl
+-- ---- what a plan decides
 
-  begin_raw : (a j : ℕ) (o : Option Attempt) (zs : Job) (b : Bool) → a == i ≡ b → b ≡ true → begun_operation s i zs.begun ≡ operation_at s i j → attempt_of zs.begun ≡ (with_attempt (decision_of_begun (kept_of s earlier) a (Some (fresh_begun j (kept_of s earlier).history)) (operation_at s a j)).attempt (fresh_begun j (kept_of s earlier).history).editing).attempt → RawRests s i (if b then zs else now_beside (line.Begin a j)).begun
-  begin_raw a j o zs true e t op at raw =
-      at ∙ ap (λ p. (with_attempt p (fresh_begun j (kept_of s earlier).history).editing).attempt)
-      (raw_decision (kept_of s earlier) a (Some (fresh_begun j (kept_of s earlier).history)) (operation_at s a j) (ap (λ n. has_value is_raw (operation_at s n j)) (eqb-true a i e) ∙ ap (has_value is_raw) (sym op) ∙ raw))
-  begin_raw a j o zs false e t op at raw = absurd (true≢false (sym t))
+abbrev Begins : Decision → Attempt → Type 0
+Begins d a = d.attempt ≡ Some a
 
-  none_raw : (b : Bool) (z zs : Job) → b ≡ true → zs.begun ≡ None → RawRests s i (if b then zs else z).begun
-  none_raw true z zs t h raw = ap attempt_of h
-  none_raw false z zs t h raw = absurd (true≢false (sym t))
+abbrev RefusesBy : Decision → PlanError → Type 0
+RefusesBy d r = d.work ≡ refuses r
 
-  border_raw : (l : Line) → is_job_border i l ≡ true → RawRests s i (behind_job s l (kept_of s earlier) i x).begun
-  border_raw (line.Begin a j) h = begin_raw a j None (own_now (line.Begin a j)) (a == i) refl h refl refl
-  border_raw (line.Answered a j given) h = none_raw (a == i) (now_beside (line.Answered a j given)) (own_now (line.Answered a j given)) h refl
-  border_raw l h = absurd (true≢false (sym h))
+abbrev begins_with : ℕ → Plan → List (List ℕ) → Decision
+begins_with f plan paths = record { work = writes; attempt = Some (planned f plan paths) }
 
-  goes_raw : (b sent : Bool) (t : Touch) (d : Option Decided) (new a : Option Attempt) → b ≡ false → new ≡ None → a ≡ None → (if b then new else or_else new (more_sent sent (attempt_behind t d a))) ≡ None
-  goes_raw true sent t d new a h n g = n
-  goes_raw false true t d new a h n g = rw (n, g) refl
-  goes_raw false false t d new a h n g = rw (n, g) refl
+refusal_in : Work → PlanError → PlanError
+refusal_in (refuses x) r = x
+refusal_in (lacks key) r = r
+refusal_in rests r = r
+refusal_in (sends c) r = r
+refusal_in (reads path) r = r
+refusal_in writes r = r
+refusal_in resets r = r
+refusal_in (happens event) r = r
 
-  line_raw : (l : Line) (b : Bool) → is_job_border i l ≡ b → RawRests s i x.begun → RawRests s i (behind_job s l (kept_of s earlier) i x).begun
-  line_raw l true h rests = border_raw l h
-  line_raw l false h rests = λ raw.
-      attempt_line s earlier i x here l
-      ∙ goes_raw (is_job_border i l) (sends_update s i l earlier) (facts_of s l (kept_of s earlier)).touch (decided_in x.begun) (attempt_begun s i l earlier) (attempt_of x.begun) h
-      (raw_begins l h (ap (has_value is_raw) (sym (same_operation l h)) ∙ raw))
-      (rests (ap (has_value is_raw) (sym (same_operation l h)) ∙ raw))
+module _ (k : Kept) (actor f : ℕ) (e : Edit) (paths : List (List ℕ)) where
+  begins : (plan : Plan) (a : Attempt) (o : Option ℕ) → Begins (elim o [ Some key ↦ decides (lacks key) | None ↦ begins_with f plan paths ]) a → plan ≡ a.plan
+  begins plan a (Some key) h = absurd (cc)
+  begins plan a None h = let same : planned f plan paths ≡ a = cc in ap (λ (x : Attempt). x.plan) same
 
-raw_rests : (s : Script) (lines : List Line) (i : ℕ) (y : Job) → slice_get (kept_of s lines).jobs i ≡ Some y → RawRests s i y.begun
-raw_rests s [] i y h = λ raw. ap (λ (j : Job). attempt_of j.begun) (first_jobs _ i y h)
-raw_rests s (l ∷ earlier) i y h =
-    let b : Before s l earlier i y = before s l earlier i y h in
-    subst (λ (j : Job). RawRests s i j.begun) (sym b.became) (line_raw s earlier i b.job b.here l (is_job_border i l) refl (raw_rests s earlier i b.job b.here))
+  pub planned_by : (a : Attempt) (r : Result Plan PlanError) → Begins (elim r [ Err refusal ↦ decides (refuses refusal) | Ok plan ↦ begins_plan k actor f plan paths ]) a → r ≡ Ok a.plan
+  planned_by a (Err refusal) h = absurd (cc)
+  planned_by a (Ok plan) h = ap made (begins plan a (first_lack k.history actor k.sessions k.files f (plan_updates plan)) h)
 
--- ---- the first update of an attempt, in a legal line
+  never_refuses : (plan : Plan) (x : PlanError) (o : Option ℕ) → RefusesBy (elim o [ Some key ↦ decides (lacks key) | None ↦ begins_with f plan paths ]) x → ⊥
+  never_refuses plan x (Some key) h = cc
+  never_refuses plan x None h = cc
 
-edits_pass : (t : Tests) → all_pass t ≡ true → t.edits ≡ true
-edits_pass t h = first_and t.edits _ (rest_and t.snapshots _ (rest_and t.responses _ h))
+  pub refused_by : (x : PlanError) (r : Result Plan PlanError) → RefusesBy (elim r [ Err refusal ↦ decides (refuses refusal) | Ok plan ↦ begins_plan k actor f plan paths ]) x → r ≡ Err x
+  unfolding refusal_in
+  refused_by x (Err refusal) h = ap refused (ap (λ (w : Work). refusal_in w x) h)
+  refused_by x (Ok plan) h = absurd (never_refuses plan x (first_lack k.history actor k.sessions k.files f (plan_updates plan)) h)
 
-turns_pass : (t : Tests) → all_pass t ≡ true → t.turns ≡ true
-turns_pass t h = first_and t.turns _ (rest_and t.verifications _ (rest_and t.answers _ (rest_and t.rest _ (rest_and t.channels _ (rest_and t.edits _ (rest_and t.snapshots _ (rest_and t.responses _ h)))))))
+-- ---- current paths
 
-same_actor : (o : Option ℕ) (a : ℕ) → same_number o (Some a) ≡ true → o ≡ Some a
-same_actor None a h = absurd (true≢false (sym h))
-same_actor (Some b) a h = ap (λ (n : ℕ). Some n) (eqb-true b a h)
+none_fails : (files : List CachedFile) (path : List ℕ) (rest : Option (List ℕ)) (b : Bool) → (if not b then Some path else rest) ≡ None → (b ≡ true) × (rest ≡ None)
+none_fails files path rest true h = (refl, h)
+none_fails files path rest false h = absurd (cc)
 
-module _ (s : Script) (w : World) (k : Kept) (i : ℕ) (c : CommandValue) (b : Begun) (a : Attempt) (begun : begun_of i k.jobs ≡ Some b) (under : b.editing.attempt ≡ Some a) (unsent : a.sent ≡ 0) (actor : k.turn.actor ≡ Some i) where
-  begun_by : (o : Option (ℕ × Edit)) (e : EditTurn) → edit_turn_by i b o ≡ Some e → e.begun ≡ b
-  begun_by None e h = absurd (cc)
-  begun_by (Some (f, ed)) e h = sym (ap begun_of_turn h)
+none_missing : (files : List CachedFile) (paths : List (List ℕ)) → first_missing files paths ≡ None → all_current files paths ≡ true
+none_missing files [] h = refl
+none_missing files (path ∷ paths) h =
+    let q = none_fails files path (first_missing files paths) (is_current files path) h in
+    and_from (is_current files path) (all_current files paths) q.0 (none_missing files paths q.1)
+
+front : (files : List CachedFile) (a b : List (List ℕ)) → all_current files (a ++ b) ≡ true → all_current files a ≡ true
+front files [] b h = refl
+front files (path ∷ a) b h = let q = and_parts (is_current files path) (all_current files (a ++ b)) h in and_from (is_current files path) (all_current files a) q.0 (front files a b q.1)
+
+behind : (files : List CachedFile) (a b : List (List ℕ)) → all_current files (a ++ b) ≡ true → all_current files b ≡ true
+behind files [] b h = h
+behind files (path ∷ a) b h = behind files a b (and_parts (is_current files path) (all_current files (a ++ b)) h).1
+
+pub member : (files : List CachedFile) (paths : List (List ℕ)) (i : ℕ) (path : List ℕ) → slice_get paths i ≡ Some path → all_current files paths ≡ true → is_current files path ≡ true
+member files [] i path e h = absurd (cc)
+member files (x ∷ paths) zero path e h = let same : x ≡ path = cc in subst (λ y. is_current files y ≡ true) same (and_parts (is_current files x) (all_current files paths) h).0
+member files (x ∷ paths) (suc i) path e h = member files paths i path e (and_parts (is_current files x) (all_current files paths) h).1
+
+-- ---- the family's two files
+
+abbrev pub IsTwo : ℕ → Type 0
+IsTwo f = (slice_get (family_paths f) 0 ≡ Some (family_path f 0)) × (slice_get (family_paths f) 1 ≡ Some (family_path f 1))
+
+pub two_by : (f : ℕ) (a b c : Bool) → (0 == f) ≡ a → (1 == f) ≡ b → (2 == f) ≡ c → (a || (b || (c || false))) ≡ true → IsTwo f
+two_by f true b c x y z h = subst IsTwo (eqb-true 0 f x) (refl, refl)
+two_by f false true c x y z h = subst IsTwo (eqb-true 1 f y) (refl, refl)
+two_by f false false true x y z h = subst IsTwo (eqb-true 2 f z) (refl, refl)
+two_by f false false false x y z h = absurd (cc)
+
+same_plan : (f : ℕ) (e : Edit) (v w : View) → v (family_path f 0) ≡ w (family_path f 0) → v (family_path f 1) ≡ w (family_path f 1) → family_plan f e v ≡ family_plan f e w
+same_plan f e v w a b = ap (λ (x : Content). plan_edit e x (v (family_path f 1))) a ∙ ap (λ (x : Content). plan_edit e (w (family_path f 0)) x) b
+
+-- ---- the rule of a file
+
+none_there : List (List ℕ)
+none_there = []
+
+no_row : (n : ℕ) (b : Bool) → (if b then slice_get none_there (n - 1) else None) ≡ None
+unfolding none_there
+no_row n true = refl
+no_row n false = refl
+
+rows_at : (n : ℕ) (o : Option FileState) → row_from_one (unwrap_or (option_map (λ (x : FileState). x.rows) o) missing).rows n ≡ option_and_then (record_at n) o
+unfolding none_there
+rows_at n None = no_row n (nat_lt 0 n)
+rows_at n (Some file) = refl
+
+module _ (card : CardState) (files : List CachedFile) (t : FilesTrue card files) where
+  taken_file : (path : List ℕ) (file : CachedFile) → taken path files ≡ Some file → FileTrue card file × (file.path ≡ path)
+  taken_file path file h = by_list files t h
     where
-      begun_of_turn : Option EditTurn → Begun
-      begun_of_turn None = b
-      begun_of_turn (Some t) = t.begun
+      by_test : (x : CachedFile) (rest : Option CachedFile) → FileTrue card x → (rest ≡ Some file → FileTrue card file) → (b : Bool) → (if b then Some x else rest) ≡ Some file → FileTrue card file
+      by_test x rest u next true e = let same : x ≡ file = cc in subst (FileTrue card) same u
+      by_test x rest u next false e = next e
 
-  begun_of_edit : (o : Option Operation) (e : EditTurn) → edit_turn_of i (Some b) o ≡ Some e → e.begun ≡ b
-  begun_of_edit None e h = absurd (cc)
-  begun_of_edit (Some op) e h = begun_by (family_edit op) e h
+      by_true : (fs : List CachedFile) → FilesTrue card fs → taken path fs ≡ Some file → FileTrue card file
+      by_true [] u e = absurd (cc)
+      by_true (x ∷ fs) u e = by_test x (taken path fs) u.0 (λ q. by_true fs u.1 q) (is_of path x) e
 
-  begun_in : (e : EditTurn) → edit_turn s k ≡ Some e → e.begun ≡ b
-  begun_in e h =
-      begun_of_edit (operation_now s i k.jobs) e
-      (ap (λ o. edit_turn_of i o (operation_now s i k.jobs)) (sym begun) ∙ ap (edit_turn_at s k) (sym actor) ∙ h)
+      by_list : (fs : List CachedFile) → FilesTrue card fs → taken path fs ≡ Some file → FileTrue card file × (file.path ≡ path)
+      by_list fs u e = (by_true fs u e, same_bytes_is file.path path (find_passes (is_of path) fs file e))
 
-  by_plan : (e : EditTurn) → is_planned_right w e (Some a) ≡ true → plan_updates a.plan ≡ card_updates w e
-  by_plan e h = rows_same (plan_updates a.plan) (card_updates w e) (subst (λ (n : ℕ). (elim (n == 0) [ true ↦ same_updates (plan_updates a.plan) (card_updates w e) | false ↦ true ]) ≡ true) unsent h)
+  view_is : (path : List ℕ) → is_application path ≡ false → is_current files path ≡ true → view_of_files files path ≡ rows_of path card
+  view_is path n h = current-agrees files (λ path. rows_of path card) path (card_agrees card files t) n h
 
-  by_order : (e : EditTurn) → edit_turn s k ≡ Some e → is_ordered w k e c ≡ true → plan_updates a.plan ≡ card_updates w e
-  by_order e h ordered =
-      by_plan e
-      (subst (λ o. is_planned_right w e o ≡ true) (ap (λ (x : Begun). x.editing.attempt) (begun_in e h) ∙ under)
-      (first_and (is_planned_right w e e.begun.editing.attempt) (is_next_update w k e c) (rest_and (may_update k e) _ ordered)))
+  cons_rest : (p : Option (List ℕ)) (rest : List (List ℕ)) → all_current files (cons_option p rest) ≡ true → all_current files rest ≡ true
+  cons_rest None rest h = h
+  cons_rest (Some path) rest h = (and_parts (is_current files path) (all_current files rest) h).1
 
-  by_turn : (book : EditTurn → Bool) (o : Option EditTurn) → edit_turn s k ≡ o → k.chain ≡ None → (elim o [ None ↦ false | Some e ↦ is_sent_right w k e c k.chain && book e ]) ≡ true → plan_updates a.plan ≡ turn_updates w o
-  by_turn book None h chain right = absurd (true≢false (sym right))
-  by_turn book (Some e) h chain right = by_order e h (subst (λ o. is_sent_right w k e c o ≡ true) chain (first_and (is_sent_right w k e c k.chain) (book e) right))
+  cons_first : (p : Option (List ℕ)) (rest : List (List ℕ)) (path : List ℕ) → p ≡ Some path → all_current files (cons_option p rest) ≡ true → is_current files path ≡ true
+  cons_first None rest path e h = absurd (cc)
+  cons_first (Some q) rest path e h = let same : q ≡ path = cc in subst (λ y. is_current files y ≡ true) same (and_parts (is_current files q) (all_current files rest) h).0
 
-  outside : is_update_ins c.ins ≡ true → has_value is_raw (operation_now s i k.jobs) ≡ false → is_outside_raw s k c ≡ true
-  outside update raw = rw (update, actor, raw) refl
+  named_current : (paths : List (List ℕ)) (i : ℕ) (path named : List ℕ) → slice_get paths i ≡ Some path → rule_path files path ≡ Some named → all_current files (filter_map (rule_path files) paths) ≡ true → is_current files named ≡ true
+  named_current [] i path named e n h = absurd (cc)
+  named_current (x ∷ paths) zero path named e n h = let same : x ≡ path = cc in cons_first (rule_path files x) (filter_map (rule_path files) paths) named (ap (rule_path files) same ∙ n) h
+  named_current (x ∷ paths) (suc i) path named e n h = named_current paths i path named e n (cons_rest (rule_path files x) (filter_map (rule_path files) paths) h)
 
-  when_true : (o p : Bool) → o ≡ true → (elim o [ true ↦ p | false ↦ true ]) ≡ true → p ≡ true
-  when_true true p h e = e
-  when_true false p h e = absurd (true≢false (sym h))
+  module _ (path : List ℕ) (outside : is_application path ≡ false) (rules_outside : (arr : ArrRef) → is_application (rule_file_path path arr) ≡ false) (file : CachedFile) (found : taken path files ≡ Some file) (rules : (named : List ℕ) → rule_path files path ≡ Some named → is_current files named ≡ true) where
+    rule_is : (arr : ArrRef) → file.arr ≡ Some arr → rule_of_record (row_from_one (view_of_files files (rule_file_path path arr)).rows arr.row) ≡ rule_of_record (option_and_then (record_at arr.row) (file_of (rule_file_path path arr) card))
+    rule_is arr h =
+        let named : rule_path files path ≡ Some (rule_file_path path arr) = ap (path_of_rule path) found ∙ ap (option_map (rule_file_path path)) h in
+        let rows = view_is (rule_file_path path arr) (rules_outside arr) (rules (rule_file_path path arr) named) in
+        ap (λ (x : Content). rule_of_record (row_from_one x.rows arr.row)) rows ∙ ap rule_of_record (rows_at arr.row (file_of (rule_file_path path arr) card))
 
-  pub exchange_planned : (r : _) → is_update_ins c.ins ≡ true → has_value is_raw (operation_now s i k.jobs) ≡ false → k.chain ≡ None → has_right_edit s w k (line.Exchange i c r) ≡ true → plan_updates a.plan ≡ turn_updates w (edit_turn s k)
-  exchange_planned r update raw chain right = by_turn (λ e. is_book_right w k e c r) (edit_turn s k) refl chain (when_true (is_outside_raw s k c) (is_update_right s w k c r) (outside update raw) right)
-
-  pub failed_planned : (d : Bool) → is_update_ins c.ins ≡ true → has_value is_raw (operation_now s i k.jobs) ≡ false → k.chain ≡ None → has_right_edit s w k (line.Failed i c d) ≡ true → plan_updates a.plan ≡ turn_updates w (edit_turn s k)
-  failed_planned d update raw chain right = by_turn (λ e. is_lost_book_right w (world_failed w c d) k e) (edit_turn s k) refl chain (when_true (is_outside_raw s k c) (is_lost_update_right s w (world_failed w c d) k c) (outside update raw) right)
-
--- the tests of a line, over what stands behind the lines before it
-of_lines : (s : Script) (earlier : List Line) (P : World → Kept → Type 0) → P (state_of s earlier).world (state_of s earlier).kept → P (world_of s earlier) (kept_of s earlier)
-of_lines s earlier P h = subst (λ (k : Kept). P (world_of s earlier) k) (state_kept s earlier) (subst (λ (w : World). P w (state_of s earlier).kept) (state_world s earlier) h)
-
-some_begun : (o : Option Begun) (a : Attempt) → attempt_of o ≡ Some a → is_some o ≡ true
-some_begun None a h = absurd (cc)
-some_begun (Some b) a h = refl
-
-new_update : (c : CommandValue) (chain : Option Chain) → is_new_update c chain ≡ true → (is_update_ins c.ins ≡ true) × (chain ≡ None)
-new_update c None h = (h, refl)
-new_update c (Some chain) h = absurd (true≢false (sym h))
-
-not_raw : (b : Bool) (o : Option Attempt) (a : Attempt) → o ≡ Some a → (b ≡ true → o ≡ None) → b ≡ false
-not_raw false o a h rests = refl
-not_raw true o a h rests = absurd (some_none (sym h ∙ rests refl))
-  where
-    some_none : Some a ≡ None → ⊥
-    some_none e = absurd (cc)
-
-module _ (s : Script) (m : Mode) (earlier : List Line) (i : ℕ) (x : Job) (here : slice_get (kept_of s earlier).jobs i ≡ Some x) (rests : RawRests s i x.begun) where
-  exchange_first : (a : ℕ) (c : CommandValue) (r : _) (at : Attempt) (b : Begun) → a ≡ i → x.begun ≡ Some b → b.editing.attempt ≡ Some at → at.sent ≡ 0 → is_new_update c (kept_of s earlier).chain ≡ true → is_legal_line s m (line.Exchange a c r) earlier ≡ true → plan_updates at.plan ≡ turn_updates (world_of s earlier) (edit_turn s (kept_of s earlier))
-  exchange_first a c r at b same begun under unsent new legal =
-      let tests : Tests = line_tests s m (changed_in s earlier) (state_of s earlier) (line.Exchange a c r) in
-      let update = new_update c (kept_of s earlier).chain new in
-      let placed : is_command_right (kept_of s earlier) a c ≡ true = of_lines s earlier (λ w k. is_command_right k a c ≡ true) (turns_pass tests legal) in
-      let right : has_right_edit s (world_of s earlier) (kept_of s earlier) (line.Exchange a c r) ≡ true = of_lines s earlier (λ w k. has_right_edit s w k (line.Exchange a c r) ≡ true) (edits_pass tests legal) in
-      exchange_planned s (world_of s earlier) (kept_of s earlier) i c b at (same_begun s (kept_of s earlier) i x here ∙ begun) under unsent
-      (same_actor (kept_of s earlier).turn.actor a (first_and (is_turn_of a (kept_of s earlier).turn) _ placed) ∙ ap (λ (n : ℕ). Some n) same)
-      r update.0
-      (ap (has_value is_raw) (now_here s earlier i x here i refl) ∙ not_raw (has_value is_raw (begun_operation s i x.begun)) (attempt_of x.begun) at (ap attempt_of begun ∙ under) rests)
-      update.1
-      (subst (λ n. has_right_edit s (world_of s earlier) (kept_of s earlier) (line.Exchange n c r) ≡ true) same right)
-
-  failed_first : (a : ℕ) (c : CommandValue) (d : Bool) (at : Attempt) (b : Begun) → a ≡ i → x.begun ≡ Some b → b.editing.attempt ≡ Some at → at.sent ≡ 0 → is_new_update c (kept_of s earlier).chain ≡ true → is_legal_line s m (line.Failed a c d) earlier ≡ true → plan_updates at.plan ≡ turn_updates (world_of s earlier) (edit_turn s (kept_of s earlier))
-  failed_first a c d at b same begun under unsent new legal =
-      let tests : Tests = line_tests s m (changed_in s earlier) (state_of s earlier) (line.Failed a c d) in
-      let update = new_update c (kept_of s earlier).chain new in
-      let placed : is_command_right (kept_of s earlier) a c ≡ true = of_lines s earlier (λ w k. is_command_right k a c ≡ true) (turns_pass tests legal) in
-      let right : has_right_edit s (world_of s earlier) (kept_of s earlier) (line.Failed a c d) ≡ true = of_lines s earlier (λ w k. has_right_edit s w k (line.Failed a c d) ≡ true) (edits_pass tests legal) in
-      failed_planned s (world_of s earlier) (kept_of s earlier) i c b at (same_begun s (kept_of s earlier) i x here ∙ begun) under unsent
-      (same_actor (kept_of s earlier).turn.actor a (first_and (is_turn_of a (kept_of s earlier).turn) _ placed) ∙ ap (λ (n : ℕ). Some n) same)
-      d update.0
-      (ap (has_value is_raw) (now_here s earlier i x here i refl) ∙ not_raw (has_value is_raw (begun_operation s i x.begun)) (attempt_of x.begun) at (ap attempt_of begun ∙ under) rests)
-      update.1
-      (subst (λ n. has_right_edit s (world_of s earlier) (kept_of s earlier) (line.Failed n c d) ≡ true) same right)
-
-  first_line : (l : Line) (at : Attempt) (o : Option Begun) → x.begun ≡ o → attempt_of o ≡ Some at → at.sent ≡ 0 → sends_update s i l earlier ≡ true → is_legal_line s m l earlier ≡ true → plan_updates at.plan ≡ turn_updates (world_of s earlier) (edit_turn s (kept_of s earlier))
-  first_line (line.Exchange a c r) at (Some b) begun under unsent sends legal =
-      exchange_first a c r at b (eqb-true a i (first_and (a == i) (is_new_update c (kept_of s earlier).chain) sends)) begun under unsent (rest_and (a == i) (is_new_update c (kept_of s earlier).chain) sends) legal
-  first_line (line.Failed a c d) at (Some b) begun under unsent sends legal =
-      failed_first a c d at b (eqb-true a i (first_and (a == i) (is_new_update c (kept_of s earlier).chain) sends)) begun under unsent (rest_and (a == i) (is_new_update c (kept_of s earlier).chain) sends) legal
-  first_line l at None begun under unsent sends legal = absurd (cc)
-  first_line l at (Some b) begun under unsent sends legal = absurd (true≢false (sym sends))
-
--- ---- all lines
-
-module _ (now before : List RowUpdate) (n : ℕ) (a0 : Attempt) (count : a0.sent ≡ n) where
-  zero_or : (b : Bool) → n == 0 ≡ b → (a0.sent ≡ 0 → plan_updates a0.plan ≡ now) → (nat_lt 0 a0.sent ≡ true → plan_updates a0.plan ≡ before) → plan_updates a0.plan ≡ (if b then now else before)
-  zero_or true h first later = first (count ∙ eqb-true n 0 h)
-  zero_or false h first later = later (rw count (above n h))
-    where
-      above : (k : ℕ) → k == 0 ≡ false → nat_lt 0 k ≡ true
-      above zero e = absurd (true≢false e)
-      above (suc k) e = grind arith
-
-  sent_one : (sent : Bool) (a1 a : Attempt) → a1.plan ≡ a0.plan → a1.sent ≡ a0.sent → (sent ≡ true → a0.sent ≡ 0 → plan_updates a0.plan ≡ now) → (nat_lt 0 a0.sent ≡ true → plan_updates a0.plan ≡ before) → more_sent sent (Some a1) ≡ Some a → nat_lt 0 a.sent ≡ true → plan_updates a.plan ≡ (if sent && (n == 0) then now else before)
-  sent_one true a1 a plan same first later h above = ap plan_of (sym h) ∙ ap plan_updates plan ∙ zero_or (n == 0) refl (first refl) later
-    where
-      plan_of : Option Attempt → List RowUpdate
-      plan_of None = []
-      plan_of (Some t) = plan_updates t.plan
-  sent_one false a1 a plan same first later h above = ap plan_of (sym h) ∙ ap plan_updates plan ∙ later (ap (nat_lt 0) (sym same) ∙ ap sent_of h ∙ above)
-    where
-      plan_of : Option Attempt → List RowUpdate
-      plan_of None = []
-      plan_of (Some t) = plan_updates t.plan
-
-      sent_of : Option Attempt → Bool
-      sent_of None = false
-      sent_of (Some t) = nat_lt 0 t.sent
-
-  moved_one : (b sent : Bool) (d : Option Decided) (a : Attempt) → (sent ≡ true → a0.sent ≡ 0 → plan_updates a0.plan ≡ now) → (nat_lt 0 a0.sent ≡ true → plan_updates a0.plan ≡ before) → more_sent sent (if b then moved_attempt d a0 else Some a0) ≡ Some a → nat_lt 0 a.sent ≡ true → plan_updates a.plan ≡ (if sent && (n == 0) then now else before)
-  moved_one true sent (Some d) a first later h above = sent_one sent (record a0 { moved = true }) a refl refl first later h above
-  moved_one true true None a first later h above = absurd (cc)
-  moved_one true false None a first later h above = absurd (cc)
-  moved_one false sent d a first later h above = sent_one sent a0 a refl refl first later h above
-
-fresh_sent : (new : Option Attempt) (a : Attempt) → option_map (as_of 0 false) new ≡ new → new ≡ Some a → nat_lt 0 a.sent ≡ true → ⊥
-fresh_sent new a h e above = absurd (true≢false (sym above ∙ ap sent_of (sym e ∙ sym h) ∙ none new))
-  where
-    sent_of : Option Attempt → Bool
-    sent_of None = false
-    sent_of (Some t) = nat_lt 0 t.sent
-
-    none : (o : Option Attempt) → sent_of (option_map (as_of 0 false) o) ≡ false
-    none None = refl
-    none (Some t) = refl
-
-step_plan : (t : Touch) (border sent : Bool) (new o : Option Attempt) (d : Option Decided) (n : ℕ) (now before : List RowUpdate) (a : Attempt)
-    → option_map (as_of 0 false) new ≡ new
-    → ((a0 : Attempt) → o ≡ Some a0 → a0.sent ≡ n)
-    → ((a0 : Attempt) → o ≡ Some a0 → sent ≡ true → a0.sent ≡ 0 → plan_updates a0.plan ≡ now)
-    → ((a0 : Attempt) → o ≡ Some a0 → nat_lt 0 a0.sent ≡ true → plan_updates a0.plan ≡ before)
-    → (if border then new else or_else new (more_sent sent (attempt_behind t d o))) ≡ Some a → nat_lt 0 a.sent ≡ true → plan_updates a.plan ≡ (if sent && (n == 0) then now else before)
-step_plan t true sent new o d n now before a fresh count first later h above = absurd (fresh_sent new a fresh h above)
-step_plan t false sent (Some b) o d n now before a fresh count first later h above = absurd (fresh_sent (Some b) a fresh h above)
-step_plan t false true None None d n now before a fresh count first later h above = absurd (cc)
-step_plan t false false None None d n now before a fresh count first later h above = absurd (cc)
-step_plan t false sent None (Some a0) d n now before a fresh count first later h above =
-    moved_one now before n a0 (count a0 refl) (moves_one t a0.paths) sent d a (first a0 refl) (later a0 refl) h above
-
-pub planned : PlansForTheCard
-planned s m [] legal i y a h under above = absurd (nothing (ap (λ (j : Job). attempt_of j.begun) (first_jobs _ i y h)))
-  where
-    nothing : attempt_of y.begun ≡ None → ⊥
-    nothing e = absurd (some_none (sym under ∙ e))
+    of_card : (o : Option FileState) → file_of path card ≡ o → file.arr ≡ option_and_then (λ (x : FileState). x.arr) o → need_by_rule files path file.arr ≡ need_of_file card o
+    of_card None h e = rw e refl
+    of_card (Some there) h e =
+        let name : there.path ≡ path = there_path there h in
+        by_arr file.arr refl there.arr refl (sym e) name
       where
-        some_none : Some a ≡ None → ⊥
-        some_none p = absurd (cc)
-planned s m (l ∷ earlier) legal i y a h under above =
-    let b : Before s l earlier i y = before s l earlier i y h in
-    let rests : RawRests s i b.job.begun = raw_rests s earlier i b.job b.here in
-    step_plan (facts_of s l (kept_of s earlier)).touch (is_job_border i l) (sends_update s i l earlier) (attempt_begun s i l earlier) (attempt_of b.job.begun) (decided_in b.job.begun) (updates_sent s i earlier)
-    (turn_updates (world_of s earlier) (edit_turn s (kept_of s earlier))) (updates_planned s i earlier) a
-    (fresh s i l earlier (is_start_of i l))
-    (λ a0 e. counted_sent (attempt_since s i earlier) (updates_sent s i earlier) (was_moved s i earlier) a0 (sym e ∙ (tells s earlier i b.job b.here).attempt))
-    (λ a0 e sends unsent. first_line s m earlier i b.job b.here rests l a0 b.job.begun refl e unsent sends (first_and (is_legal_line s m l earlier) (are_legal_lines s m earlier) legal))
-    (λ a0 e. planned s m earlier (rest_and (is_legal_line s m l earlier) (are_legal_lines s m earlier) legal) i b.job a0 b.here e)
-    (sym (attempt_line s earlier i b.job b.here l) ∙ sym (ap (λ (j : Job). attempt_of j.begun) b.became) ∙ under)
-    above
-  where
-    counted_sent : (o : Option Attempt) (n : ℕ) (v : Bool) (a0 : Attempt) → Some a0 ≡ option_map (as_of n v) o → a0.sent ≡ n
-    counted_sent None n v a0 e = absurd (cc)
-    counted_sent (Some t) n v a0 e = ap sent_of e
-      where
-        sent_of : Option Attempt → ℕ
-        sent_of None = 0
-        sent_of (Some t) = t.sent
+        in_application : (b : Bool) (there : FileState) → (if b then None else file_at path card) ≡ Some there → file_at path card ≡ Some there
+        in_application true there h = absurd (cc)
+        in_application false there h = h
+
+        there_path : (there : FileState) → file_of path card ≡ Some there → there.path ≡ path
+        there_path there h = found_path path card there (in_application (is_in_application path && is_none (usim_of card)) there h)
+
+        by_arr : (a : Option ArrRef) → file.arr ≡ a → (b : Option ArrRef) → there.arr ≡ b → there.arr ≡ file.arr → there.path ≡ path → need_by_rule files path file.arr ≡ need_of_file card (Some there)
+        by_arr None x b y z name = rw x (let q : there.arr ≡ None = z ∙ x in rw q refl)
+        by_arr (Some arr) x b y z name =
+            let q : there.arr ≡ Some arr = z ∙ x in
+            rw (x, q, name) (ap (λ (r : Rule). r.update) (rule_is arr x))
+
+    pub need_is : update_need files path ≡ card_need card path
+    need_is =
+        let t = taken_file path file found in
+        ap (need_of_taken files path) found ∙ of_card (file_of path card) refl ((t.0 (ap is_application t.1 ∙ outside)).arr ∙ ap (λ (x : List ℕ). arr_at x card) t.1)
+
+  some_of : (path : List ℕ) (o : Option CachedFile) → taken path files ≡ o → is_some o ≡ true → (file : CachedFile) × (taken path files ≡ Some file)
+  some_of path None h c = absurd (cc)
+  some_of path (Some file) h c = (file, h)
+
+  pub path_need : (paths : List (List ℕ)) (i : ℕ) (path : List ℕ) → is_application path ≡ false → ((arr : ArrRef) → is_application (rule_file_path path arr) ≡ false) → slice_get paths i ≡ Some path → all_current files (paths ++ filter_map (rule_path files) paths) ≡ true → update_need files path ≡ card_need card path
+  path_need paths i path outside rules_outside e h =
+      let here = member files paths i path e (front files paths (filter_map (rule_path files) paths) h) in
+      let q = some_of path (taken path files) refl here in
+      need_is path outside rules_outside q.0 q.1 (λ named n. named_current paths i path named e n (behind files paths (filter_map (rule_path files) paths) h))
+
+-- ---- the books
+
+pub record IsBook (f : ℕ) : Type 0 where
+  pub main : slice_get (family_paths f) 0 ≡ Some (family_path f 0)
+  pub extension : slice_get (family_paths f) 1 ≡ Some (family_path f 1)
+  pub main_outside : is_application (family_path f 0) ≡ false
+  pub extension_outside : is_application (family_path f 1) ≡ false
+  pub main_rules : (arr : ArrRef) → is_application (rule_file_path (family_path f 0) arr) ≡ false
+  pub extension_rules : (arr : ArrRef) → is_application (rule_file_path (family_path f 1) arr) ≡ false
+
+rules_by : (path : List ℕ) (id : ℕ) → is_application (path ++ id ∷ []) ≡ false → (b : Bool) → is_application (if b then 0x2F06 ∷ [] else path ++ id ∷ []) ≡ false
+rules_by path id h true = refl
+rules_by path id h false = h
+
+book_by : (f : ℕ) (b c : Bool) → (1 == f) ≡ b → (2 == f) ≡ c → (b || (c || false)) ≡ true → IsBook f
+book_by f true c y z h = subst IsBook (eqb-true 1 f y) (record { main = refl; extension = refl; main_outside = refl; extension_outside = refl; main_rules = λ arr. rules_by (0x7F10 ∷ []) arr.file_id refl (arr.file_id == 0x2F06); extension_rules = λ arr. rules_by (0x7F10 ∷ []) arr.file_id refl (arr.file_id == 0x2F06) })
+book_by f false true y z h = subst IsBook (eqb-true 2 f z) (record { main = refl; extension = refl; main_outside = refl; extension_outside = refl; main_rules = λ arr. rules_by (0x7FFF ∷ []) arr.file_id refl (arr.file_id == 0x2F06); extension_rules = λ arr. rules_by (0x7FFF ∷ []) arr.file_id refl (arr.file_id == 0x2F06) })
+book_by f false false y z h = absurd (cc)
+
+-- ---- the whole
+
+on_card : (card : CardState) (k : Kept) (f : ℕ) (e : Edit) (d : Decision) (actor : ℕ) → FilesTrue card k.files → is_one_of f (phonebook ∷ fixed ∷ []) ≡ true → first_missing k.files (edit_paths k.files f) ≡ None → d ≡ plans k actor f e (edit_paths k.files f) → IsPlanned card k f e d
+on_card card k f e d actor t one current is =
+    let all = none_missing k.files (edit_paths k.files f) current in
+    let own = front k.files (family_paths f) (filter_map (rule_path k.files) (family_paths f)) all in
+    let book = book_by f (1 == f) (2 == f) refl refl one in
+    let main = view_is card k.files t (family_path f 0) book.main_outside (member k.files (family_paths f) 0 (family_path f 0) book.main own) in
+    let extension = view_is card k.files t (family_path f 1) book.extension_outside (member k.files (family_paths f) 1 (family_path f 1) book.extension own) in
+    let same = sym (same_plan f e (view_of_files k.files) (λ path. rows_of path card) main extension) in
+    record {
+      plan = λ a h. same ∙ planned_by k actor f e (edit_paths k.files f) a (family_plan f e (view_of_files k.files)) (ap (λ (x : Decision). x.attempt) (sym is) ∙ h);
+      refusal = λ r h. same ∙ refused_by k actor f e (edit_paths k.files f) r (family_plan f e (view_of_files k.files)) (ap (λ (x : Decision). x.work) (sym is) ∙ h);
+      main_need = path_need card k.files t (family_paths f) 0 (family_path f 0) book.main_outside book.main_rules book.main all;
+      extension_need = path_need card k.files t (family_paths f) 1 (family_path f 1) book.extension_outside book.extension_rules book.extension all;
+    }
+
+by_decision : (card : CardState) (k : Kept) (f : ℕ) (e : Edit) (d : Decision) → FilesTrue card k.files → is_one_of f (phonebook ∷ fixed ∷ []) ≡ true → is_planned d ≡ true → Decides k f e d → IsPlanned card k f e d
+by_decision card k f e d t one h (elsewhere n) = absurd (true≢false (sym h ∙ n))
+by_decision card k f e d t one h (on_files actor q is) = on_card card k f e d actor t one q is
+
+pub planned_true : (s : Script) (card : CardState) (k : Kept) (l : Line) (f : ℕ) (e : Edit) → FilesTrue card k.files → is_one_of f (phonebook ∷ fixed ∷ []) ≡ true → edit_at s l k ≡ Some (f, e) → is_planned (decision_at s l k) ≡ true → IsPlanned card k f e (decision_at s l k)
+planned_true s card k l f e t one edit h = by_decision card k f e (decision_at s l k) t one h (line_by k f e s l edit)

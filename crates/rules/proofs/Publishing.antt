@@ -15,6 +15,7 @@ use Rattle.rules.specs.declared.kept.Kept.{Kept}
 use Rattle.rules.specs.declared.due.Due.TheVariants.{Publish as publish}
 use Rattle.rules.specs.Due.{due, due_publication, published_by, kept_text}
 use Rattle.rules.specs.State.{view_in}
+use Rattle.rules.specs.Agreement.{is_application}
 use Rattle.rules.specs.Laws.{Agrees}
 use Rattle.rules.proofs.Says.{says_of}
 
@@ -48,12 +49,12 @@ due-current s k f e = publication_current k k.turn.family f (due-publish s k f e
 
 -- ---- and so the text is what the card shows
 
-content_by : (files : List CachedFile) (view : View) (path : List ℕ) (o : Option CachedFile) → Agrees files view → taken path files ≡ o → is_some o ≡ true → content_or_missing o ≡ view path
-content_by files view path None a h c = absurd (cc)
-content_by files view path (Some file) a h c = a.same path file h
+content_by : (files : List CachedFile) (view : View) (path : List ℕ) (o : Option CachedFile) → Agrees files view → is_application path ≡ false → taken path files ≡ o → is_some o ≡ true → content_or_missing o ≡ view path
+content_by files view path None a n h c = absurd (cc)
+content_by files view path (Some file) a n h c = a.same path file n h
 
-pub current-agrees : (files : List CachedFile) (view : View) (path : List ℕ) → Agrees files view → is_current files path ≡ true → view_of_files files path ≡ view path
-current-agrees files view path a c = content_by files view path (taken path files) a refl c
+pub current-agrees : (files : List CachedFile) (view : View) (path : List ℕ) → Agrees files view → is_application path ≡ false → is_current files path ≡ true → view_of_files files path ≡ view path
+current-agrees files view path a n c = content_by files view path (taken path files) a n refl c
 
 first_and : (a b : Bool) → a && b ≡ true → a ≡ true
 first_and true b h = refl
@@ -85,8 +86,8 @@ pub tail-current : (files : List CachedFile) (path : List ℕ) (paths : List (Li
 tail-current files path paths h = rest_and (is_current files path) (all_current files paths) h
 
 module _ (files : List CachedFile) (view : View) (a : Agrees files view) where
-  one : (path : List ℕ) (paths : List (List ℕ)) → all_current files (path ∷ paths) ≡ true → view_of_files files path ≡ view path
-  one path paths h = current-agrees files view path a (head-current files path paths h)
+  one : (path : List ℕ) (paths : List (List ℕ)) → is_application path ≡ false → all_current files (path ∷ paths) ≡ true → view_of_files files path ≡ view path
+  one path paths n h = current-agrees files view path a n (head-current files path paths h)
 
   records_text : all_current files (family_paths 0) ≡ true → shown 0 (view_of_files files) ≡ shown 0 view
   records_text h0 =
@@ -97,19 +98,19 @@ module _ (files : List CachedFile) (view : View) (a : Agrees files view) where
       let h5 = tail-current files msisdn_path (ext5_path ∷ dir_path ∷ []) h4 in
       let h6 = tail-current files ext5_path (dir_path ∷ []) h5 in
       records_same (view_of_files files) view
-      (one ad_path (spn_path ∷ msisdn_path ∷ ext5_path ∷ dir_path ∷ []) h2)
-      (one dir_path [] h6)
-      (one iccid_path (imsi_path ∷ ad_path ∷ spn_path ∷ msisdn_path ∷ ext5_path ∷ dir_path ∷ []) h0)
-      (one imsi_path (ad_path ∷ spn_path ∷ msisdn_path ∷ ext5_path ∷ dir_path ∷ []) h1)
-      (one msisdn_path (ext5_path ∷ dir_path ∷ []) h4)
-      (one ext5_path (dir_path ∷ []) h5)
-      (one spn_path (msisdn_path ∷ ext5_path ∷ dir_path ∷ []) h3)
+      (one ad_path (spn_path ∷ msisdn_path ∷ ext5_path ∷ dir_path ∷ []) refl h2)
+      (one dir_path [] refl h6)
+      (one iccid_path (imsi_path ∷ ad_path ∷ spn_path ∷ msisdn_path ∷ ext5_path ∷ dir_path ∷ []) refl h0)
+      (one imsi_path (ad_path ∷ spn_path ∷ msisdn_path ∷ ext5_path ∷ dir_path ∷ []) refl h1)
+      (one msisdn_path (ext5_path ∷ dir_path ∷ []) refl h4)
+      (one ext5_path (dir_path ∷ []) refl h5)
+      (one spn_path (msisdn_path ∷ ext5_path ∷ dir_path ∷ []) refl h3)
 
   phonebook_text : all_current files (family_paths 1) ≡ true → shown 1 (view_of_files files) ≡ shown 1 view
-  phonebook_text h = book_same (view_of_files files adn_path) (view_of_files files ext1_path) (view adn_path) (view ext1_path) (one adn_path (ext1_path ∷ []) h) (one ext1_path [] (tail-current files adn_path (ext1_path ∷ []) h))
+  phonebook_text h = book_same (view_of_files files adn_path) (view_of_files files ext1_path) (view adn_path) (view ext1_path) (one adn_path (ext1_path ∷ []) refl h) (one ext1_path [] refl (tail-current files adn_path (ext1_path ∷ []) h))
 
   fixed_text : all_current files (family_paths 2) ≡ true → shown 2 (view_of_files files) ≡ shown 2 view
-  fixed_text h = book_same (view_of_files files fdn_path) (view_of_files files ext2_path) (view fdn_path) (view ext2_path) (one fdn_path (ext2_path ∷ []) h) (one ext2_path [] (tail-current files fdn_path (ext2_path ∷ []) h))
+  fixed_text h = book_same (view_of_files files fdn_path) (view_of_files files ext2_path) (view fdn_path) (view ext2_path) (one fdn_path (ext2_path ∷ []) refl h) (one ext2_path [] refl (tail-current files fdn_path (ext2_path ∷ []) h))
 
   by_family : (f : ℕ) (a b c : Bool) → (0 == f) ≡ a → (1 == f) ≡ b → (2 == f) ≡ c → (a || (b || (c || false))) ≡ true → all_current files (family_paths f) ≡ true → shown f (view_of_files files) ≡ shown f view
   by_family f true b c e0 e1 e2 one_of h = let e : 0 ≡ f = eqb-true 0 f e0 in subst (λ n. all_current files (family_paths n) ≡ true → shown n (view_of_files files) ≡ shown n view) e records_text h

@@ -37,11 +37,12 @@ use Rattle.rules.specs.declared.kept.Work.{Work}
 use Rattle.rules.specs.declared.kept.Work.TheVariants.{Rests as rests, Sends as sends, Reads as reads, Writes as writes}
 use Rattle.rules.specs.declared.standing.Standing.{Standing}
 use Rattle.rules.specs.History.{counted, stops_epoch, ends_epoch, history_after}
-use Rattle.link.specs.Commands.{is_path_select, is_refused}
+use Rattle.link.specs.Commands.{is_refused}
 use Rattle.rules.specs.Commands.{chain_behind, final_of, selection_behind}
 use Rattle.epoch_cache.specs.Cache.{asks_reset, is_update}
 use Rattle.rules.specs.Cache.{touch_of, files_behind}
-use Rattle.loader.specs.Reading.{reading_of, next_read, readings_after, unspoiled, completed_by, refused_by, has_bad_fcp}
+use Rattle.loader.specs.Reading.{unspoiled, completed_by, refused_by, has_bad_fcp}
+use Rattle.loader.specs.Load.{is_selected, read_behind, readings_exchanged}
 use Rattle.refresher.specs.Refresh.{startup_steps}
 use Rattle.rules.specs.Refresh.{startup_behind, owed_behind}
 use Rattle.channels.specs.Channels.{is_opening, opened_number, select_application, close_command}
@@ -197,10 +198,6 @@ begun_failed edit selected chain event c b = record b {
   editing = editing_lost edit selected event c (editing_sent c chain b.editing);
 }
 
-abbrev pub readings_exchanged : Option (List ℕ) → Option Final → List ReadingValue → List ReadingValue
-readings_exchanged selected None readings = readings
-readings_exchanged selected (Some f) readings = readings_after f selected readings
-
 abbrev pub job_answered : Option Operation → Answer → ℕ → Job → Job
 job_answered op given publications job = record {
   answered = job.answered + 1;
@@ -309,12 +306,9 @@ stage_of_sent (Some (operation.OpenChannel handle aid)) opened refresh f = stage
 stage_of_sent (Some op) opened refresh f = over
 stage_of_sent None opened refresh f = stage_of_framework refresh
 
-abbrev pub is_selected : Final → Bool
-is_selected f = is_path_select f.command && is_success f.response.sw
-
 -- behind a SELECT of a reading comes its next READ
 abbrev pub stage_of_read : List ℕ → List ReadingValue → Final → Stage
-stage_of_read path readings f = if is_selected f then next_or_over (option_and_then next_read (reading_of path readings)) else over
+stage_of_read path readings f = next_or_over (read_behind path readings f)
 
 -- behind a SELECT comes the update
 abbrev pub stage_of_write : Option Attempt → Final → Stage

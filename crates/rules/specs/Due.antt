@@ -20,7 +20,6 @@ use Rattle.report.specs.declared.answer.Answer.TheVariants as answer
 use Rattle.adn.specs.declared.edit.PlanError.{PlanError}
 use Rattle.adn.specs.declared.edit.PlanError.TheVariants as plan_error
 use Rattle.families.specs.Families.{family_paths, family_path, shown}
-use Rattle.loader.specs.Values.{ReadingValue}
 use Rattle.link.specs.declared.chain.Chain.{Chain}
 use Rattle.rules.specs.declared.due.Due.{Due}
 use Rattle.rules.specs.declared.due.Due.TheVariants.{TellEnd as tell_end, Send as send, ResetCard as reset_card, TryEvent as try_event, TellRefusal as tell_refusal, Publish as publish, Give as give, Begin as begin, WaitFor as wait_for, EndOfActor as end_of_actor, Rest as rest}
@@ -37,9 +36,9 @@ use Rattle.rules.specs.declared.kept.Stage.TheVariants.{Fresh as fresh, Next as 
 use Rattle.rules.specs.declared.kept.Turn.{Turn}
 use Rattle.rules.specs.declared.kept.Work.{Work}
 use Rattle.rules.specs.declared.kept.Work.TheVariants.{Refuses as refuses, Lacks as lacks, Sends as sends, Reads as reads, Writes as writes, Resets as resets, Happens as happens}
-use Rattle.link.specs.Commands.{is_at, select_for_reading, select_only}
 use Rattle.epoch_cache.specs.Cache.{all_current, view_of_files}
-use Rattle.loader.specs.Reading.{reading_of, next_read}
+use Rattle.loader.specs.Reading.{reading_of}
+use Rattle.loader.specs.Load.{selected_first, reading_command}
 use Rattle.rules.specs.Channels.{handle_of, is_raw_ins}
 use Rattle.rules.specs.Sessions.{has_session}
 use Rattle.rules.specs.Watching.{notices_of}
@@ -50,19 +49,6 @@ use Rattle.rules.specs.Kept.{job_of, begun_of, operation_now}
 use Rattle.rules.specs.Work.{waits_on, has_ended}
 
 -- ---- commands, resets and events of the world
-
--- SELECT without an answer stands before a command exactly where another file is current on the basic channel
-abbrev pub selected_first : Option (List ℕ) → List ℕ → CommandValue → CommandValue
-selected_first selected path c = if is_at selected path then c else select_only path
-
--- the next READ, or else the reading is begun anew
-abbrev pub next_or_select : Option (List ℕ) → List ℕ → Option CommandValue → CommandValue
-next_or_select selected path None = select_for_reading path
-next_or_select selected path (Some c) = selected_first selected path c
-
-abbrev pub reading_command : Option (List ℕ) → List ℕ → Option ReadingValue → CommandValue
-reading_command selected path None = select_for_reading path
-reading_command selected path (Some g) = next_or_select selected path (next_read g)
 
 -- the next update of an attempt
 abbrev pub writing_command : Option (List ℕ) → Option Attempt → Option CommandValue

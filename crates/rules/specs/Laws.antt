@@ -1,7 +1,6 @@
 -- Laws of the rules that a reader would want of them.
-use Rattle.std.specs.Prelude.{◌≡◌, ◌⊎◌, ◌==◌, ℕ, Bool, true, nat_lt, if◌then◌else◌, List, [], ◌∷◌, Option, Some, None, is_none, map, option_map, slice_get}
+use Rattle.std.specs.Prelude.{◌≡◌, ℕ, Bool, true, nat_lt, List, [], ◌∷◌, Some, is_none, map, option_map, slice_get, false}
 use Rattle.apdu.specs.Words.{is_one_of}
-use Rattle.card_model.specs.declared.world.ChannelState.{ChannelState}
 use Rattle.card_model.specs.declared.world.CardState.{CardState}
 use Rattle.card_model.specs.declared.world.World.{World}
 use Rattle.card_model.specs.Step.{card_inside}
@@ -10,7 +9,7 @@ use Rattle.report.specs.declared.line.Mode.{Mode}
 use Rattle.report.specs.declared.line.Line.{Line}
 use Rattle.report.specs.declared.lines.Report.{Report}
 use Rattle.families.specs.Plans.{plan_updates}
-use Rattle.families.specs.Families.{View, all_families, shown}
+use Rattle.families.specs.Families.{View, all_families, shown, phonebook, fixed}
 use Rattle.rules.specs.declared.due.Due.TheVariants.{Publish as publish}
 use Rattle.epoch_cache.specs.declared.cached.CachedFile.{CachedFile}
 use Rattle.editor.specs.declared.editing.Attempt.{Attempt}
@@ -18,8 +17,12 @@ use Rattle.rules.specs.declared.kept.Job.{Job}
 use Rattle.rules.specs.declared.kept.Kept.{Kept}
 use Rattle.epoch_cache.specs.Cache.{taken, is_current}
 use Rattle.rules.specs.Due.{due, kept_text}
-use Rattle.rules.specs.After.{kept_of}
-use Rattle.rules.specs.State.{world_of, view_in}
+use Rattle.rules.specs.After.{decision_at, kept_of}
+use Rattle.rules.specs.State.{world_of, view_in, shown_in, same_shown}
+use Rattle.rules.specs.Agreement.{are_responses_right, TiedInside, edit_at, IsPlanned, is_application, is_planned}
+use Rattle.adn.specs.declared.edit.Edit.{Edit}
+use Rattle.script_reader.specs.Rules.{keeps_rules}
+use Rattle.link.specs.Selected.{FollowsInside}
 use Rattle.rules.specs.declared.holdings.Session.{Session}
 use Rattle.rules.specs.declared.standing.Standing.{Standing}
 use Rattle.rules.specs.Editing.{attempt_of}
@@ -36,9 +39,9 @@ JudgesReports = (r : Report) → is_none (first_broken r) ≡ legal r
 
 -- ---- publications
 
--- each current file is kept as the view has it
+-- each current file is kept as the view has it, beside one at the directory of the application
 pub record Agrees (files : List CachedFile) (view : View) : Type 0 where
-  pub same : (path : List ℕ) (file : CachedFile) → taken path files ≡ Some file → file.content ≡ view path
+  pub same : (path : List ℕ) (file : CachedFile) → is_application path ≡ false → taken path files ≡ Some file → file.content ≡ view path
 
 -- a publication that is due tells what the card shows
 abbrev pub TellsTruth : Type 0
@@ -46,31 +49,27 @@ TellsTruth = (s : Script) (k : Kept) (world : World) (f : ℕ) → Agrees k.file
 
 -- ---- the selection
 
--- the basic channel among the open ones
-abbrev pub basic_in : List ChannelState → Option ChannelState
-basic_in [] = None
-basic_in (c ∷ cs) = if c.number == 0 then Some c else basic_in cs
-
-abbrev pub current_on : Option ChannelState → Option (List ℕ)
-current_on None = None
-current_on (Some c) = c.current
-
--- the path that is current on it; none for the master file
-abbrev pub basic_path : List ChannelState → Option (List ℕ)
-basic_path cs = current_on (basic_in cs)
-
--- the kept selection is none, or what is current
-abbrev pub Follows : List ChannelState → Option (List ℕ) → Type 0
-Follows channels selected = (selected ≡ None) ⊎ (basic_path channels ≡ selected)
-
--- of a card that may be in the slot
-abbrev pub FollowsInside : Option CardState → Option (List ℕ) → Type 0
-FollowsInside None selected = Unit {0}
-FollowsInside (Some card) selected = Follows card.channels selected
-
 -- over legal lines the kept selection follows the card
 abbrev pub TracksSelection : Type 0
 TracksSelection = (s : Script) (m : Mode) (lines : List Line) → are_legal_lines s m lines ≡ true → FollowsInside (card_inside (world_of s lines)) (kept_of s lines).selected
+
+-- ---- what is kept, and the card; over every list of lines whose responses are right
+
+-- the responses of legal lines are
+abbrev pub AnswersRight : Type 0
+AnswersRight = (s : Script) (m : Mode) (lines : List Line) → are_legal_lines s m lines ≡ true → are_responses_right s lines ≡ true
+
+-- what is kept agrees with the card in the slot
+abbrev pub KeptAgrees : Type 0
+KeptAgrees = (s : Script) (lines : List Line) → keeps_rules s ≡ true → are_responses_right s lines ≡ true → TiedInside (world_of s lines) (kept_of s lines)
+
+-- a publication that is due tells what the card in the slot shows
+abbrev pub ShowsCard : Type 0
+ShowsCard = (s : Script) (lines : List Line) (f : ℕ) → keeps_rules s ≡ true → are_responses_right s lines ≡ true → is_one_of f all_families ≡ true → due s (kept_of s lines) ≡ publish f → same_shown (shown_in (world_of s lines) f) (Some (kept_text f (kept_of s lines))) ≡ true
+
+-- what an edit decides behind them by a plan, it decides by the plan for the card in the slot
+abbrev pub PlansForCard : Type 0
+PlansForCard = (s : Script) (lines : List Line) (l : Line) (card : CardState) (f : ℕ) (e : Edit) → keeps_rules s ≡ true → are_responses_right s lines ≡ true → card_inside (world_of s lines) ≡ Some card → is_one_of f (phonebook ∷ fixed ∷ []) ≡ true → edit_at s l (kept_of s lines) ≡ Some (f, e) → is_planned (decision_at s l (kept_of s lines)) ≡ true → IsPlanned card (kept_of s lines) f e (decision_at s l (kept_of s lines))
 
 -- ---- what is kept, and looking back; over every list of lines
 
@@ -134,5 +133,5 @@ KeptLooksBack = (s : Script) (lines : List Line) → LooksBack s lines
 -- ---- plans
 
 -- over legal lines the updates of an attempt, of which one was sent, are those of the plan for the card as it was before the first
-abbrev pub PlansForTheCard : Type 0
-PlansForTheCard = (s : Script) (m : Mode) (lines : List Line) → are_legal_lines s m lines ≡ true → (actor : ℕ) (job : Job) (a : Attempt) → slice_get (kept_of s lines).jobs actor ≡ Some job → attempt_of job.begun ≡ Some a → nat_lt 0 a.sent ≡ true → plan_updates a.plan ≡ updates_planned s actor lines
+abbrev pub UpdatesFollowPlan : Type 0
+UpdatesFollowPlan = (s : Script) (m : Mode) (lines : List Line) → are_legal_lines s m lines ≡ true → (actor : ℕ) (job : Job) (a : Attempt) → slice_get (kept_of s lines).jobs actor ≡ Some job → attempt_of job.begun ≡ Some a → nat_lt 0 a.sent ≡ true → plan_updates a.plan ≡ updates_planned s actor lines

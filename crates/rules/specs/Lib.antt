@@ -16,6 +16,7 @@ pub mod Rules
 pub mod Legal
 pub mod Performed
 pub mod LookingBack
+pub mod Agreement
 pub mod Laws
 pub mod WorkedWords
 pub mod WorkedLoads
@@ -29,3 +30,4 @@ pub mod WorkedRuns
 pub mod BrokenContents
 pub mod BrokenAnswers
 pub mod BrokenTurns
+pub mod Events

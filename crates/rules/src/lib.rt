@@ -22,7 +22,8 @@ pub use judging::{
 };
 pub use kept::{Begun, Decision, Facts, Job, Jobs, Kept, Outcome, Stage, Turn, Work};
 pub use laws::{
-    attempt_is_planned_for_the_card, due_publication_is_true, kept_looks_back, legal_or_broken,
-    selection_is_tracked,
+    due_is_shown, due_publication_is_true, edit_is_planned_for_card, history_keeps_events,
+    kept_agrees, kept_looks_back, legal_lines_are_answered_right, legal_or_broken,
+    selection_is_tracked, updates_follow_the_plan,
 };
 pub use standing::Standing;

@@ -1,4 +1,4 @@
-use Rattle.std.proofs.Common.{◌≡◌, ◌≤◌, ◌+◌, ◌-◌, ◌++◌, length, take, replicate}
+use Rattle.std.proofs.Common.{◌≡◌, ◌≤◌, ◌+◌, ◌-◌, ◌++◌, take, replicate}
 use Rattle.loader.proofs.reading.append_row.Given as goal
 
 abbrev pub invariant-fill : goal.invariant-fill

@@ -1,4 +1,4 @@
-use Rattle.std.proofs.Common.{◌≡◌, ◌<◌, length, ◌∙◌, sym, ap}
+use Rattle.std.proofs.Common.{◌<◌, length, ◌∙◌, sym}
 use Rattle.loader.proofs.TakenOut.{found_here, rest_here}
 use Rattle.loader.proofs.readings.take_out.Goals as goal
 

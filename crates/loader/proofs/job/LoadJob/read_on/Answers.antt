@@ -1,4 +1,3 @@
-use Rattle.std.proofs.Common.{◌≡◌}
 use Rattle.link.proofs.Steps.{plays-added}
 use Rattle.loader.specs.Load.{Load, load_of}
 use Rattle.loader.proofs.Sent.{due-added, load-added, on-ok}

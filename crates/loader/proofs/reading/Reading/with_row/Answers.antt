@@ -1,4 +1,4 @@
-use Rattle.std.proofs.Common.{◌≡◌, ◌<◌, ◌+◌, ◌++◌, ◌∷◌, [], length, take, refl, ap, sym, ◌∙◌, subst, arith, List, ℕ}
+use Rattle.std.proofs.Common.{◌≡◌, ◌<◌, ◌+◌, ◌++◌, ◌∷◌, [], length, take, refl, ap, sym, ◌∙◌, subst, arith}
 use Rattle.apdu.specs.Words.{filled_to}
 use Rattle.fcp.specs.Buffer.{rows_of}
 use Rattle.loader.specs.Buffer.{row_len}
@@ -38,7 +38,7 @@ returns c =
     let wide = asked_within g.control g.count in
     let whole = whole_rows g.control g.count g.bytes c.g.invariant (omega (arith, n, left)) in
     let rows : rows_of (g.count + 1) (row_len g.control) c.append_row.new.bytes.items ≡ rows_of g.count (row_len g.control) g.bytes.items ++ row ∷ [] =
-        ap (λ b. rows_of (g.count + 1) (row_len g.control) b) c.append_row.ensures.items ∙ row_appended g.count (row_len g.control) g.bytes.items row whole (omega (arith, len, wide, rw n at same, c.asked_len.ensures)) in
+    ap (λ b. rows_of (g.count + 1) (row_len g.control) b) c.append_row.ensures.items ∙ row_appended g.count (row_len g.control) g.bytes.items row whole (omega (arith, len, wide, rw n at same, c.asked_len.ensures)) in
     let asked : take c.asked_len.result (filled_to 255 c.asked_len.result c.args.body.now) ≡ take (asked_len c.args.le) (filled_to 255 (asked_len c.args.le) c.args.body.now) = rw c.asked_len.ensures refl in
     ap (λ r. record { path = g.path; control = g.control; rows = r; first_event = g.first_event }) (rows ∙ ap (λ r. rows_of g.count (row_len g.control) g.bytes.items ++ r ∷ []) asked)
     ∙ ap (λ (v : ReadingValue). record v { rows = v.rows ++ take (asked_len c.args.le) (filled_to 255 (asked_len c.args.le) c.args.body.now) ∷ [] }) c.g.view_is

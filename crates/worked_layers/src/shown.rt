@@ -1,8 +1,8 @@
 // What is shown of cards' files.
 ghost use Rattle.std.specs.Prelude.{◌<◌, ◌≤◌};
 
-use super::*;
 use apdu::{Path, Sequence, Text};
+use families::{ContentText, Families, Standard};
 use fcp::{FileKind, FileView, Rows};
 use std::alloc::Global;
 use std::test::Fail;

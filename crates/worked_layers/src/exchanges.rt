@@ -1,10 +1,10 @@
 // What is sent to a slot that tells nothing of itself.
 ghost use Rattle.std.specs.Prelude.{None};
 
-use super::*;
 use apdu::{Command, Path, Response, Sw};
 use arrayvec::ArrayVec;
 use card_model::{Slot, SlotFault};
+use link::{FileAnswer, LinkError, Selection, Trail, file_command, transmit};
 use std::test::Fail;
 
 // It answers READ BINARY with 6C05 and 6103, GET RESPONSE with success, STATUS with 6C01 always,

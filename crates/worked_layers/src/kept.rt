@@ -1,9 +1,9 @@
 // The calls that may want memory, where there is enough.
 
-use super::*;
 use apdu::{Command, Path, Response, Sw};
 use arrayvec::ArrayVec;
 use card_model::{Step, WorldEvent};
+use epoch_cache::{Cache, Event, History};
 use fcp::Rows;
 use std::process::Abort;
 use std::test::Fail;
