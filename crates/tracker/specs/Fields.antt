@@ -9,7 +9,8 @@ use Rattle.loader.specs.declared.reading.RefusedReading.{RefusedReading}
 use Rattle.rules.specs.declared.holdings.Handle.{Handle}
 use Rattle.rules.specs.declared.kept.Facts.{Facts}
 use Rattle.rules.specs.declared.kept.Kept.{Kept}
-use Rattle.rules.specs.History.{counted, history_after, stops_epoch}
+use Rattle.epoch_cache.specs.Past.{counted}
+use Rattle.rules.specs.History.{history_after, stops_epoch}
 use Rattle.rules.specs.Commands.{chain_behind, selection_behind}
 use Rattle.rules.specs.Channels.{ended_handles}
 use Rattle.rules.specs.Refresh.{startup_behind, owed_behind}

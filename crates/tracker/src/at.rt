@@ -2,6 +2,7 @@
 ghost use Rattle.std.specs.Prelude.{◌≡◌, ◌+◌, ◌<◌, ◌^◌, [], true, option_map, IfOk, OnOk};
 ghost use Rattle.std.specs.List.{list_all};
 ghost use Rattle.std.specs.Option.{option_copied};
+ghost use Rattle.loader.specs.Load as load;
 ghost use Rattle.rules.specs.After as rules;
 ghost use Rattle.rules.specs.Kept.{begun_of, change_at, job_of};
 ghost use Rattle.rules.specs.declared.kept.Job.{Job};
@@ -138,7 +139,7 @@ pub fn exchange_at<'x>(
     ensures jobs { OnOk result (jobs.new ≡ change_at actor (λ (job : Job). record job {
         begun = option_map (rules.begun_exchanged (rules.edit_of (option_copied operation.entry))
             (option_copied selected.entry) (option_copied chain.entry) event command.now response.now) job.begun;
-        readings = rules.readings_exchanged (option_copied selected.entry) (option_copied answered.entry) job.readings
+        readings = load.readings_exchanged (option_copied selected.entry) (option_copied answered.entry) job.readings
     }) jobs.old) }
     ensures fits { OnOk result (begun_fits (begun_of actor jobs.new) ≡ true) }
 {

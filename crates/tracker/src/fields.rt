@@ -8,7 +8,7 @@ ghost use Rattle.rules.specs.Commands as rules;
 ghost use Rattle.rules.specs.History as history;
 ghost use Rattle.rules.specs.Refresh as startup;
 
-use crate::lines::{begins_epoch, is_epoch_border, stops_epoch};
+use crate::lines::{is_epoch_border, stops_epoch};
 use apdu::{Command, Memory, Path, Response};
 use epoch_cache::{CachedFile, CachedFiles, Touch, exchange_files, forget_moved};
 use link::{Chain, Final, has_more, is_basic_select, is_path_select, named_path};
@@ -75,7 +75,7 @@ pub fn startup_behind(line: &Line, answered: Option<&Final>, step: u8) -> u8
 {
     match line {
         Line::Exchange { command, .. } => startup_after(command, answered, step),
-        other => if begins_epoch(other) { 0 } else { step },
+        other => if is_epoch_border(other) { 0 } else { step },
     }
 }
 

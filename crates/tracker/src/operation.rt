@@ -3,6 +3,7 @@ ghost use Rattle.std.specs.Prelude.{◌≡◌, true, option_map, IfOk, OnOk, OnE
 ghost use Rattle.std.specs.List.{list_all};
 ghost use Rattle.std.specs.Option.{option_copied};
 ghost use Rattle.link.specs.Commands.{final_after};
+ghost use Rattle.loader.specs.Load as load;
 ghost use Rattle.rules.specs.After as rules;
 ghost use Rattle.rules.specs.After.{kept_after};
 ghost use Rattle.rules.specs.Cache.{files_behind as files_after_line};
@@ -146,7 +147,7 @@ fn exchange_own(
             begun = option_map (rules.begun_exchanged
                 (rules.edit_of (option_copied operation.entry)) kept.old.selected kept.old.chain
                 facts.now.event command.now response.now) job.begun;
-            readings = rules.readings_exchanged kept.old.selected facts.now.answered job.readings
+            readings = load.readings_exchanged kept.old.selected facts.now.answered job.readings
         }) kept.old.jobs
     }) }
     ensures fits { OnOk result (begun_fits (begun_of actor kept.new.jobs) ≡ true) }

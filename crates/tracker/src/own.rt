@@ -4,6 +4,7 @@ ghost use Rattle.std.specs.Option.{option_copied};
 ghost use Rattle.apdu.specs.Apdu.{is_update_ins as is_update_instruction, verify_ins};
 ghost use Rattle.apdu.specs.Words.{same_number as same_numbers};
 
+ghost use Rattle.loader.specs.Load as load;
 ghost use Rattle.rules.specs.After as rules;
 ghost use Rattle.rules.specs.Watching.{mailbox_after as mailbox_after_answer};
 ghost use Rattle.tracker.specs.Finished as finished;
@@ -244,7 +245,7 @@ pub fn readings_exchanged(
 ) -> Result<Option<CachedFile>, Memory>
     ensures value { IfOk result (λ file. file ≡ finished.file_completed started (option_copied answered.entry)
         (option_copied selected.entry) readings.old) }
-    ensures ok { OnOk result (readings.new ≡ rules.readings_exchanged
+    ensures ok { OnOk result (readings.new ≡ load.readings_exchanged
         (option_copied selected.entry) (option_copied answered.entry) readings.old) }
 {
     match answered {
@@ -270,7 +271,7 @@ pub fn job_exchanged(
             (rules.edit_of (option_copied sent.now.operation)) (option_copied sent.now.selected)
             (option_copied sent.now.chain) sent.now.event sent.now.command.now response.now)
             job.old.begun;
-        readings = rules.readings_exchanged (option_copied sent.now.selected)
+        readings = load.readings_exchanged (option_copied sent.now.selected)
             (option_copied answered.entry) job.old.readings;
     }) }
     ensures fits { OnOk result (begun_fits job.new.begun ≡ true) }

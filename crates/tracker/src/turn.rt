@@ -5,6 +5,7 @@ ghost use Rattle.apdu.specs.Words.{or_else as first_or_else};
 ghost use Rattle.channels.specs.Channels as channel_commands;
 ghost use Rattle.channels.specs.Channels.{is_opening as is_opening_command};
 ghost use Rattle.editor.specs.Editing as edits;
+ghost use Rattle.loader.specs.Load as load;
 ghost use Rattle.loader.specs.Reading as readings;
 ghost use Rattle.rules.specs.After as rules;
 ghost use Rattle.rules.specs.Channels.{held_numbers};
@@ -109,7 +110,7 @@ fn stage_of_sent(
 }
 
 fn is_selected(answered: &Final) -> bool
-    ensures { result ≡ rules.is_selected answered.now }
+    ensures { result ≡ load.is_selected answered.now }
 {
     is_path_select(&answered.command) && answered.response.sw.is_success()
 }
@@ -121,14 +122,20 @@ fn next_of(path: &Path, list: &[Reading]) -> Option<Command>
     reading_of(path, list)?.next_read()
 }
 
+fn read_behind(path: &Path, list: &[Reading], answered: &Final) -> Option<Command>
+    ensures { result ≡ load.read_behind path.now list.now answered.now }
+{
+    if is_selected(answered) {
+        next_of(path, list)
+    } else {
+        None
+    }
+}
+
 fn stage_of_read(path: &Path, list: &[Reading], answered: &Final) -> Stage
     ensures { result ≡ rules.stage_of_read path.now list.now answered.now }
 {
-    if is_selected(answered) {
-        next_or_over(next_of(path, list))
-    } else {
-        Stage::Over
-    }
+    next_or_over(read_behind(path, list, answered))
 }
 
 fn update_of(attempt: Option<&Attempt>) -> Option<Command>
