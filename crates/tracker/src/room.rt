@@ -1,12 +1,16 @@
 // Whether one more line can be kept with the counters that there are.
 ghost use Rattle.std.specs.Prelude.{◌≡◌, ◌∷◌, [], true};
 ghost use Rattle.std.specs.List.{list_all};
+ghost use Rattle.std.specs.Option.{option_copied};
 ghost use Rattle.families.specs.Plans.{plan_updates, some_first};
 ghost use Rattle.tracker.specs.Room as room;
 
+use crate::operations::operation_now;
 use adn::{Plan, RowUpdate};
 use editor::Attempt;
-use rules::{Begun, Job, Kept};
+use report::Line;
+use rules::{Begun, Job, Jobs, Kept};
+use script::{Operation, Script};
 use watchers::Mailbox;
 
 fn mailbox_has_room(mailbox: &Option<Mailbox>) -> bool
@@ -90,4 +94,23 @@ pub fn has_room(kept: &Kept) -> bool
         && kept.publications < u64::MAX
         && kept.marks < u64::MAX
         && jobs_have_room(kept.jobs.as_slice())
+}
+
+fn operation_fits(operation: Option<&Operation>) -> bool
+    ensures { result ≡ room.operation_fits (option_copied operation.entry) }
+{
+    match operation {
+        Some(Operation::OpenChannel { aid, .. }) => aid.as_slice().len() <= 255,
+        _ => true,
+    }
+}
+
+/// Whether what the line's operation names fits into commands.
+pub fn line_fits(script: &Script, line: &Line, jobs: &Jobs) -> bool
+    ensures { result ≡ room.line_fits script.now line.now jobs.now }
+{
+    match line {
+        Line::Exchange { actor, .. } => operation_fits(operation_now(script, *actor, jobs)),
+        _ => true,
+    }
 }

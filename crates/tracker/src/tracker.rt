@@ -3,7 +3,7 @@ ghost use Rattle.std.specs.Prelude.{◌≡◌, ◌<◌, ◌≤◌, true, length,
 ghost use Rattle.rules.specs.After.{decision_at, kept_after};
 ghost use Rattle.rules.specs.Kept.{nothing_kept as nothing_is_kept};
 ghost use Rattle.tracker.specs.Lines as kind;
-ghost use Rattle.tracker.specs.Room.{HasRoom, line_fits};
+ghost use Rattle.tracker.specs.Room.{HasRoom, line_fits as line_fits_of};
 
 use crate::first::nothing_kept;
 use crate::marks::{keep_begin, keep_turn_of_actor, keep_turn_of_framework};
@@ -11,7 +11,7 @@ use crate::operation::{keep_answered, keep_exchange, keep_failed};
 use crate::plain::{
     keep_epoch_end, keep_failed_reset, keep_published, keep_refused, keep_reset, keep_world,
 };
-use crate::room::has_room;
+use crate::room::{has_room, line_fits};
 use apdu::Memory;
 use card_model::WorldEvent;
 use report::Line;
@@ -62,6 +62,13 @@ impl Tracker {
         has_room(&self.kept)
     }
 
+    /// Whether what the line's operation names fits into commands, as it does in every script that was read.
+    pub fn fits(&self, script: &Script, line: &Line) -> bool
+        ensures { result ≡ line_fits_of script.now line.now self.now.jobs }
+    {
+        line_fits(script, line, &self.kept.jobs)
+    }
+
     /// The framework begins a turn.
     pub fn turn_of_framework(&mut self, script: &Script)
         requires actors { length script.now.actors ≤ 254 }
@@ -101,7 +108,7 @@ impl Tracker {
     /// A command was sent, and the card answered. Behind want of memory nothing is promised of what is kept.
     pub fn exchange(&mut self, script: &Script, line: &Line) -> Result<(), Memory>
         requires kind { kind.is_exchange line.now ≡ true }
-        requires operation { line_fits script.now line.now self.old.jobs ≡ true }
+        requires operation { line_fits_of script.now line.now self.old.jobs ≡ true }
         requires room { HasRoom self.old }
         ensures { OnOk result (self.new ≡ kept_after script.now line.now self.old) }
     {
