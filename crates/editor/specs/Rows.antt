@@ -1,5 +1,5 @@
 -- The rows that an edit leaves marked, row by row.
-use Rattle.std.specs.Prelude.{ℕ, ◌+◌, ◌==◌, nat_le, Bool, if◌then◌else◌, List, [], ◌∷◌, slice_get}
+use Rattle.std.specs.Prelude.{ℕ, suc, ◌==◌, nat_le, Bool, if◌then◌else◌, List, [], ◌∷◌, slice_get}
 use Rattle.apdu.specs.Words.{has_value}
 use Rattle.editor.specs.declared.editing.Decided.{Decided}
 use Rattle.editor.specs.Editing.{names_row, with_row}
@@ -7,7 +7,7 @@ use Rattle.editor.specs.Editing.{names_row, with_row}
 -- how many rows are less
 abbrev pub place_of : ℕ → List ℕ → ℕ
 place_of row [] = 0
-place_of row (x ∷ xs) = if nat_le row x then 0 else 1 + place_of row xs
+place_of row (x ∷ xs) = if nat_le row x then 0 else suc (place_of row xs)
 
 abbrev pub is_row_at : ℕ → List ℕ → ℕ → Bool
 is_row_at row rows at = has_value (λ x. x == row) (slice_get rows at)
