@@ -15,3 +15,6 @@ completed_if false started selected jobs f = refl
 
 pub completed_own : (started : Bool) (selected : Option (List ℕ)) (jobs : List Job) (actor : ℕ) (c : CommandValue) (r : ResponseValue) (events : ℕ) (before : Option Chain) → completed_of started selected jobs (final_after actor c r events before) ≡ file_completed started (final_after actor c r events before) selected (job_of actor jobs).readings
 completed_own started selected jobs actor c r events before = completed_if (asks_more (chain_count c before + 1) c r) started selected jobs (record { actor = actor; command = chain_first c before; response = r; event = events + 1; first_event = events + 1 - chain_count c before })
+
+pub completed_at : (started : Bool) (selected : Option (List ℕ)) (jobs : List Job) (actor : ℕ) (c : CommandValue) (r : ResponseValue) (events : ℕ) (before : Option Chain) (answered : Option Final) → answered ≡ final_after actor c r events before → completed_of started selected jobs answered ≡ file_completed started answered selected (job_of actor jobs).readings
+completed_at started selected jobs actor c r events before answered e = rw e (completed_own started selected jobs actor c r events before)

@@ -127,7 +127,7 @@ fn lead_turn(
 }
 
 // An exchange in the job of its actor, behind what it does to every job. Gives the file of the reading that it completed.
-#[tactic(auto, using(crate::proofs::OwnFinal::completed_own))]
+#[tactic(auto, using(crate::proofs::OwnFinal::completed_at))]
 fn exchange_own(
     alloc: Global,
     operation: Option<&Operation>,
