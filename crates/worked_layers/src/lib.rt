@@ -7,6 +7,8 @@ mod exchanges;
 #[cfg(test)]
 mod kept;
 #[cfg(test)]
+mod lines;
+#[cfg(test)]
 mod loads;
 #[cfg(test)]
 mod reports;
