@@ -84,7 +84,7 @@ pub fn startup_after(command: &Command, answered: Option<&Final>, step: u8) -> u
 {
     if ends_step(step, answered) {
         step + 1
-    } else if leaves_usim(command) {
+    } else if leaves_usim(command) && step == STARTUP_STEPS {
         0
     } else {
         step
