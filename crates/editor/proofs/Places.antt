@@ -1,7 +1,8 @@
 -- The place of a row among rising rows.
 use Rattle.std.specs.List.{insert}
+use Rattle.std.proofs.lemmas.Bool.Decides.{nat_tests}
 use Rattle.std.specs.Prelude.{nat_le, nat_lt}
-use Rattle.std.proofs.Common.{◌≡◌, ◌+◌, ◌==◌, ℕ, suc, Bool, true, false, not, cond, List, [], ◌∷◌, ◌++◌, filter, refl, ap, sym, ◌∙◌, if◌then◌else◌}
+use Rattle.std.proofs.Common.{arith, ◌≡◌, ◌+◌, ◌<◌, ◌≤◌, ◌-◌, ◌==◌, subst, ℕ, zero, suc, length, drop, slice_index, Bool, true, false, not, cond, List, [], ◌∷◌, ◌++◌, filter, refl, ap, sym, ◌∙◌, if◌then◌else◌}
 use Rattle.editor.specs.declared.editing.Decided.{Decided}
 use Rattle.editor.specs.declared.editing.Editing.{Editing}
 use Rattle.editor.specs.Editing.{with_row, rising, names_row, left_rows, unreleased, after_of}
@@ -48,3 +49,14 @@ rising_onto (r ∷ rs) = ap (with_row r) (rising_onto rs)
 -- the rows that stay marked are put one by one
 pub left_onto : (e : Editing) (d : Decided) → marked_onto d e.marked (rows_onto (unreleased d.released (after_of e.attempt)) []) ≡ left_rows e d
 left_onto e d = sym (marked_rising d e.marked (unreleased d.released (after_of e.attempt)) ∙ ap (marked_onto d e.marked) (rising_onto (unreleased d.released (after_of e.attempt))))
+
+one_put : (d : Decided) (xs : List ℕ) (i : ℕ) (rows : List ℕ) → i < length xs → marked_onto d (drop i xs) rows ≡ row_onto d (slice_index xs i) (marked_onto d (drop (suc i) xs) rows)
+one_put d [] i rows h = absurd (omega arith)
+one_put d (x ∷ xs) zero rows h = refl
+one_put d (x ∷ xs) (suc i) rows h = one_put d xs i rows (omega arith)
+
+-- the last of the rows that were not put yet
+pub last_put : (d : Decided) (xs : List ℕ) (left : ℕ) (rows : List ℕ) → zero < left → left ≤ length xs → marked_onto d (drop (left - 1) xs) rows ≡ row_onto d (slice_index xs (left - 1)) (marked_onto d (drop left xs) rows)
+last_put d xs left rows some within =
+    let e : suc (left - 1) ≡ left = omega arith in
+    subst (λ n. marked_onto d (drop (left - 1) xs) rows ≡ row_onto d (slice_index xs (left - 1)) (marked_onto d (drop n xs) rows)) e (one_put d xs (left - 1) rows (omega arith))

@@ -1,5 +1,5 @@
 pub mod EachItem
-pub mod Room
+pub mod RoomLeft
 pub mod Held
 pub mod OwnFinal
 pub mod FirstJobs

@@ -135,7 +135,7 @@ impl Change<Job> for Beside<'_> {
 }
 
 /// What a line does to every job. `epoch` is the one before the line, and `selected` was current on the basic channel.
-#[tactic(auto, using(crate::proofs::Room::jobs_have_it))]
+#[tactic(auto, using(crate::proofs::RoomLeft::jobs_have_it))]
 pub fn jobs_beside<'x>(
     alloc: Global,
     line: &'x Line,

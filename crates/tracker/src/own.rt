@@ -255,7 +255,7 @@ pub fn readings_exchanged(
 }
 
 /// A command of the actor was answered. Gives the file of the reading that it completed; `started` says that start-up is finished.
-#[tactic(auto, using(crate::proofs::Room::exchanged_fits))]
+#[tactic(auto, using(crate::proofs::RoomLeft::exchanged_fits))]
 pub fn job_exchanged(
     sent: &Sent,
     response: &Response,
