@@ -1,6 +1,10 @@
-//! An edit of a phonebook that is under way. This crate has types and definitions alone so far.
+//! An edit of a phonebook that is under way.
 #![tactic(auto)]
 
+mod attempt;
 mod editing;
+mod paths;
 
+pub use attempt::update_command;
 pub use editing::{Attempt, Decided, Editing};
+pub use paths::{family_paths, has_path};

@@ -180,7 +180,8 @@ fn first_of<'a>(chain: Option<&'a Chain>, command: &'a Command) -> &'a Command
     }
 }
 
-fn same_command(a: &Command, b: &Command) -> bool
+/// Whether two commands are the same.
+pub fn same_command(a: &Command, b: &Command) -> bool
     ensures { result ≡ same_command_values a.now b.now }
 {
     a.class == b.class

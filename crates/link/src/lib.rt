@@ -10,7 +10,7 @@ mod selection;
 mod status;
 
 pub use card_model::{Step, Trail};
-pub use chain::{Chain, Final, asks_more, follow_up, get_response_for};
+pub use chain::{Chain, Final, asks_more, follow_up, get_response_for, same_command};
 pub use exchanges::{LinkError, transmit};
 pub use file::{FileAnswer, file_command, select_fcp};
 pub use select::{

@@ -1,4 +1,4 @@
-//! The mailbox of a watcher. This crate has a type and definitions alone so far.
+//! The mailbox of a watcher.
 #![tactic(auto)]
 
 mod mailbox;

@@ -1,0 +1,3 @@
+pub mod Found
+pub mod Paths
+pub mod LeftRows
