@@ -9,6 +9,7 @@ ghost use Rattle.rules.specs.Standing.{board_of as board_shown};
 ghost use Rattle.rules.specs.Watching.{notices_of as notices_in};
 
 use crate::holdings::{handle_of, has_session};
+use crate::left_rows::left_rows;
 use crate::operations::operation_at;
 use crate::work::is_raw_ins;
 use adn::PlanError;
@@ -150,7 +151,7 @@ fn decided_answer(
     match done_publication(begun, turn) {
         None => Ok(None),
         Some(publication) => {
-            let left = begun.editing.left_rows(alloc, *decided)?;
+            let left = left_rows(alloc, &begun.editing, decided)?;
             Ok(Some(Answer::Done {
                 event: decided.event,
                 publication,

@@ -9,6 +9,7 @@ mod edits;
 mod events;
 mod fits;
 mod holdings;
+mod left_rows;
 mod next_line;
 mod open;
 mod operations;
