@@ -1,7 +1,5 @@
 -- What every item of a list is, one that is found in it is.
-use Rattle.std.specs.List.{list_all}
-use Rattle.std.specs.Prelude.{find}
-use Rattle.std.proofs.Common.{ℕ, Bool, true, false, ◌&&◌, refl, ◌≡◌, List, [], ◌∷◌, Option, Some, None, if◌then◌else◌}
+use Rattle.std.proofs.Common.{ℕ, Bool, true, false, ◌&&◌, refl, ◌≡◌, List, [], ◌∷◌, Option, Some, if◌then◌else◌}
 use Rattle.rules.specs.declared.holdings.Handle.{Handle}
 use Rattle.rules.specs.Channels.{handle_of, is_handle_of}
 use Rattle.planner.specs.Room.{channel_fits, handle_fits, handles_fit}

@@ -1,6 +1,6 @@
 -- Paths of ids.
 use Rattle.std.specs.Prelude.{filter_map}
-use Rattle.std.proofs.Common.{ℕ, ◌-◌, ◌+◌, ◌≤◌, ◌<◌, Bool, true, false, refl, ◌≡◌, List, [], ◌∷◌, ◌++◌, length, take, Option, Some, None, if◌then◌else◌, arith, ◌==◌}
+use Rattle.std.proofs.Common.{ℕ, ◌≤◌, Bool, true, false, refl, ◌≡◌, List, [], ◌∷◌, ◌++◌, length, Option, Some, None, if◌then◌else◌, arith, ◌==◌}
 use Rattle.apdu.specs.Words.{path_of}
 use Rattle.fcp.specs.declared.control.ArrRef.{ArrRef}
 use Rattle.card_model.specs.Card.{directory_of, rule_file_path}

@@ -311,7 +311,9 @@ fn answer_of(
 {
     let turn = &kept.turn;
     match operation {
-        Operation::Insert { .. } | Operation::Out | Operation::Arm { .. } => Ok(moved(turn.happened)),
+        Operation::Insert { .. } | Operation::Out | Operation::Arm { .. } => Ok(moved(
+            turn.happened,
+        )),
         Operation::Load { .. } => Ok(with_card(begun, loaded_or_outcome(turn))),
         Operation::OpenChannel { .. } | Operation::Verify { .. } | Operation::Poll => {
             Ok(with_card(begun, outcome_answer(turn)))

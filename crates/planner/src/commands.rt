@@ -207,9 +207,7 @@ pub fn tried_event(kept: &Kept) -> Option<WorldEvent>
 fn published_by(kept: &Kept, family: u8) -> Option<u8>
     ensures { result ≡ rules.published_by kept.now family }
 {
-    if kept.turn.published.is_none()
-        && all_current(&kept.files, family_paths(family).as_slice())
-    {
+    if kept.turn.published.is_none() && all_current(&kept.files, family_paths(family).as_slice()) {
         Some(family)
     } else {
         None

@@ -72,7 +72,6 @@ fn add_unreleased(
 
 /// The extension rows that stay marked, rising: those that updates before the deciding one marked and that
 /// its bytes do not name, and that of the update behind it, unless it succeeded.
-#[tactic(auto, using(crate::proofs::LeftRows::left_one_more))]
 pub(crate) fn left_rows(
     alloc: Global,
     editing: &Editing,

@@ -4,9 +4,7 @@ ghost use Rattle.std.specs.List.{list_any};
 ghost use Rattle.rules.specs.Standing as standing;
 ghost use Rattle.rules.specs.Work as spec;
 
-use crate::operations::{
-    answered_of, begun_of, operation_at, operation_count, operation_now,
-};
+use crate::operations::{answered_of, begun_of, operation_at, operation_count, operation_now};
 use refresher::STARTUP_STEPS;
 use rules::{Job, Kept, Standing};
 use script::{Operation, Script};
