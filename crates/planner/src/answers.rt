@@ -1,5 +1,5 @@
 // The answer that is due.
-ghost use Rattle.std.specs.Prelude.{◌≡◌, if◌then◌else◌, Some, None, IfOk};
+ghost use Rattle.std.specs.Prelude.{◌≡◌, if◌then◌else◌, Some, None, false, IsOk, IfOk};
 ghost use Rattle.std.specs.Option.{option_copied};
 ghost use Rattle.apdu.specs.Words.{or_else};
 ghost use Rattle.report.specs.declared.answer.Answer.TheVariants as answer;
@@ -7,6 +7,7 @@ ghost use Rattle.rules.specs.Due as rules;
 ghost use Rattle.rules.specs.Sessions.{has_session as has_session_of};
 ghost use Rattle.rules.specs.Standing.{board_of as board_shown};
 ghost use Rattle.rules.specs.Watching.{notices_of as notices_in};
+ghost use Rattle.planner.specs.Room.{is_decided, turn_is_decided};
 
 use crate::holdings::{handle_of, has_session};
 use crate::left_rows::left_rows;
@@ -198,8 +199,9 @@ fn outcome_or_planning(turn: &Turn) -> Option<Answer>
 }
 
 fn edit_answer(alloc: Global, begun: &Begun, turn: &Turn) -> Result<Option<Answer>, Memory>
-    ensures { IfOk result (λ given. given
+    ensures value { IfOk result (λ given. given
         ≡ rules.edit_answer begun.now turn.now begun.now.editing.decided) }
+    ensures room { is_decided (Some begun.now) ≡ false → IsOk result }
 {
     match &begun.editing.decided {
         Some(decided) => decided_answer(alloc, begun, decided, turn),
@@ -306,8 +308,9 @@ fn answer_of(
     begun: &Begun,
     operation: &Operation,
 ) -> Result<Option<Answer>, Memory>
-    ensures { IfOk result (λ given. given
+    ensures value { IfOk result (λ given. given
         ≡ rules.answer_of kept.now actor job.now begun.now operation.now) }
+    ensures room { is_decided (Some begun.now) ≡ false → IsOk result }
 {
     let turn = &kept.turn;
     match operation {
@@ -336,9 +339,10 @@ fn answer_of(
     }
 }
 
-/// The answer that the lines so far give cause for. It asks for memory only where an edit is done.
+/// The answer that the lines so far give cause for.
 pub fn due_answer(alloc: Global, script: &Script, kept: &Kept) -> Result<Option<Answer>, Memory>
-    ensures { IfOk result (λ given. given ≡ rules.due_answer script.now kept.now) }
+    ensures value { IfOk result (λ given. given ≡ rules.due_answer script.now kept.now) }
+    ensures room { turn_is_decided kept.now.turn.actor kept.now.jobs ≡ false → IsOk result }
 {
     let Some(actor) = kept.turn.actor else {
         return Ok(None);

@@ -1,9 +1,10 @@
 // What the beginning of a turn decides.
-ghost use Rattle.std.specs.Prelude.{◌≡◌, ◌<◌, true, IfOk};
+ghost use Rattle.std.specs.Prelude.{◌≡◌, true, false, Some, IsOk, IfOk};
 ghost use Rattle.report.specs.declared.line.Line.TheVariants as line;
 ghost use Rattle.rules.specs.After as rules;
 ghost use Rattle.rules.specs.Work as spec;
-ghost use Rattle.planner.specs.Room.{handles_fit};
+ghost use Rattle.rules.specs.Kept.{operation_at as operation_in, operation_now as operation_of};
+ghost use Rattle.planner.specs.Room.{handles_fit, is_edit};
 
 use crate::edits::{EditPlans, work_of_clear, work_of_set};
 use crate::holdings::living_handle_of;
@@ -21,8 +22,7 @@ use rules::{Begun, Decision, Kept, Work};
 use script::{Operation, Script};
 use std::alloc::Global;
 
-/// What a turn of an actor has to do for an operation that it has begun. It asks for memory only for
-/// an edit.
+/// What a turn of an actor has to do for an operation that it has begun.
 pub fn work_of_operation<P: EditPlans>(
     alloc: Global,
     planner: &P,
@@ -32,8 +32,9 @@ pub fn work_of_operation<P: EditPlans>(
     operation: &Operation,
 ) -> Result<Decision, Memory>
     requires channels { handles_fit kept.now.handles ≡ true }
-    ensures { IfOk result (λ d. d
+    ensures value { IfOk result (λ d. d
         ≡ spec.work_of_operation kept.now actor begun.now operation.now) }
+    ensures room { is_edit (Some operation.now) ≡ false → IsOk result }
 {
     match operation {
         Operation::Insert { card } => Ok(decides(Work::Happens(WorldEvent::Insert(*card)))),
@@ -102,7 +103,8 @@ pub fn decision_at_turn<P: EditPlans>(
     actor: u8,
 ) -> Result<Decision, Memory>
     requires channels { handles_fit kept.now.handles ≡ true }
-    ensures { IfOk result (λ d. d ≡ rules.decision_at script.now (line.Turn actor) kept.now) }
+    ensures value { IfOk result (λ d. d ≡ rules.decision_at script.now (line.Turn actor) kept.now) }
+    ensures room { is_edit (operation_of script.now actor kept.now.jobs) ≡ false → IsOk result }
 {
     if actor == 0 {
         return Ok(decides(framework_work(kept)));
@@ -126,7 +128,9 @@ pub fn decision_at_begin<P: EditPlans>(
     op: u32,
 ) -> Result<Decision, Memory>
     requires channels { handles_fit kept.now.handles ≡ true }
-    ensures { IfOk result (λ d. d ≡ rules.decision_at script.now (line.Begin actor op) kept.now) }
+    ensures value { IfOk result (λ d. d
+        ≡ rules.decision_at script.now (line.Begin actor op) kept.now) }
+    ensures room { is_edit (operation_in script.now actor op) ≡ false → IsOk result }
 {
     match operation_at(script, actor, op) {
         None => Ok(decides(Work::Rests)),

@@ -1,7 +1,7 @@
 // The line that is due next.
-ghost use Rattle.std.specs.Prelude.{◌≡◌, ◌≤◌, true, length, IfOk};
+ghost use Rattle.std.specs.Prelude.{◌≡◌, ◌≤◌, true, false, length, IsOk, IfOk};
 ghost use Rattle.rules.specs.Due as rules;
-ghost use Rattle.planner.specs.Room.{turn_fits};
+ghost use Rattle.planner.specs.Room.{turn_fits, turn_is_decided};
 
 use crate::answers::due_answer;
 use crate::commands::{due_command, due_publication, is_reset_due, tried_event};
@@ -55,8 +55,9 @@ fn due_of_actor(script: &Script, kept: &Kept) -> Due
 
 fn due_by_answer(alloc: Global, script: &Script, kept: &Kept) -> Result<Due, Memory>
     requires { length script.now.actors ≤ 254 }
-    ensures { IfOk result (λ line. line
+    ensures value { IfOk result (λ line. line
         ≡ rules.due_by_answer script.now kept.now (rules.due_answer script.now kept.now)) }
+    ensures room { turn_is_decided kept.now.turn.actor kept.now.jobs ≡ false → IsOk result }
 {
     match due_answer(alloc, script, kept)? {
         Some(answer) => Ok(Due::Give(answer)),
@@ -66,8 +67,9 @@ fn due_by_answer(alloc: Global, script: &Script, kept: &Kept) -> Result<Due, Mem
 
 fn due_by_publication(alloc: Global, script: &Script, kept: &Kept) -> Result<Due, Memory>
     requires { length script.now.actors ≤ 254 }
-    ensures { IfOk result (λ line. line
+    ensures value { IfOk result (λ line. line
         ≡ rules.due_by_publication script.now kept.now (rules.due_publication kept.now)) }
+    ensures room { turn_is_decided kept.now.turn.actor kept.now.jobs ≡ false → IsOk result }
 {
     match due_publication(kept) {
         Some(family) => Ok(Due::Publish(family)),
@@ -77,8 +79,9 @@ fn due_by_publication(alloc: Global, script: &Script, kept: &Kept) -> Result<Due
 
 fn due_by_refusal(alloc: Global, script: &Script, kept: &Kept) -> Result<Due, Memory>
     requires { length script.now.actors ≤ 254 }
-    ensures { IfOk result (λ line. line
+    ensures value { IfOk result (λ line. line
         ≡ rules.due_by_refusal script.now kept.now kept.now.turn.refused) }
+    ensures room { turn_is_decided kept.now.turn.actor kept.now.jobs ≡ false → IsOk result }
 {
     match kept.turn.refused {
         Some((family, event)) => Ok(Due::TellRefusal(family, event)),
@@ -86,12 +89,12 @@ fn due_by_refusal(alloc: Global, script: &Script, kept: &Kept) -> Result<Due, Me
     }
 }
 
-/// The line that the turn makes next, or how it rests. It asks for memory only for the answer to an edit
-/// that is done.
+/// The line that the turn makes next, or how it rests.
 pub fn due(alloc: Global, script: &Script, kept: &Kept) -> Result<Due, Memory>
     requires actors { length script.now.actors ≤ 254 }
     requires updates { turn_fits kept.now.turn.actor kept.now.jobs ≡ true }
-    ensures { IfOk result (λ line. line ≡ rules.due script.now kept.now) }
+    ensures value { IfOk result (λ line. line ≡ rules.due script.now kept.now) }
+    ensures room { turn_is_decided kept.now.turn.actor kept.now.jobs ≡ false → IsOk result }
 {
     if let Some((epoch, event)) = kept.turn.ended {
         return Ok(Due::TellEnd(epoch, event));
