@@ -1,8 +1,9 @@
 // What is due behind what is kept.
+use adn::{Edit, Plan, PlanError};
 use apdu::{Memory, Sequence};
 use editor::{Decided, Editing};
-use epoch_cache::Past;
-use planner::{due, turn_fits};
+use epoch_cache::{CachedFiles, Past};
+use planner::{EditPlans, decision_at_begin, due, handles_fit, turn_fits};
 use report::Answer;
 use rules::{Begun, Due, Job, Kept, Stage, Standing, Turn, Work};
 use script::read_script;
@@ -10,7 +11,7 @@ use std::alloc::Global;
 use std::test::Fail;
 
 const SCRIPT: &str =
-    r#"{"actors":[[{"at":2,"family":"fixed","op":"clear"}]],"cards":[{"files":[]}],"version":1}"#;
+    r#"{"actors":[[{"at":2,"family":"fixed","op":"clear"},{"family":"fixed","name":"Anna","number":"123","op":"set"}]],"cards":[{"files":[]}],"version":1}"#;
 
 /// An edit behind its deciding success, of whose epoch the end is published. Its deciding row names the extension row 2.
 fn decided_edit(alloc: Global) -> Result<Begun, Memory> {
@@ -76,7 +77,10 @@ fn kept_at_mark(alloc: Global) -> Result<Kept, Memory> {
     jobs.push(job(alloc, None))?;
     jobs.push(job(alloc, Some(decided_edit(alloc)?)))?;
     Ok(Kept {
-        history: Past::new(),
+        history: Past {
+            living: true,
+            ..Past::new()
+        },
         publications: 4,
         marks: 1,
         chain: None,
@@ -112,6 +116,38 @@ fn an_edit_is_answered(rt: HostRuntime) -> Result<(), Fail> {
             assert_eq!(rt; left.as_slice(), [3, 5].as_slice());
         }
         _ => return Err("an answer".into()),
+    }
+    Ok(())
+}
+
+/// Plans that want memory. An edit whose files are not read yet asks for none.
+struct NoPlans;
+
+impl EditPlans for NoPlans {
+    fn plan(
+        &self,
+        _alloc: Global,
+        _family: u8,
+        _edit: &Edit,
+        _files: &CachedFiles,
+    ) -> Result<Result<Plan, PlanError>, Memory> {
+        Err(Memory)
+    }
+}
+
+#[test]
+fn an_edit_reads_first(rt: HostRuntime) -> Result<(), Fail> {
+    let script = read_script(rt.alloc(), SCRIPT.as_bytes()).map_err(|_| "a script")?;
+    let kept = kept_at_mark(rt.alloc())?;
+    if !handles_fit(&kept.handles) {
+        return Err("channels".into());
+    }
+    for op in 0..2 {
+        let decision = decision_at_begin(rt.alloc(), &NoPlans, &script, &kept, 1, op)?;
+        match decision.work {
+            Work::Reads(path) => assert_eq!(rt; path.ids(), [0x7FFF, 0x6F3B].as_slice()),
+            _ => return Err("a reading".into()),
+        }
     }
     Ok(())
 }
