@@ -4,6 +4,7 @@
 mod attempt;
 mod editing;
 mod paths;
+mod rows;
 
 pub use attempt::update_command;
 pub use editing::{Attempt, Decided, Editing};

@@ -10,7 +10,6 @@ ghost use Rattle.rules.specs.Watching.{notices_of as notices_in};
 ghost use Rattle.planner.specs.Room.{is_decided, turn_is_decided};
 
 use crate::holdings::{handle_of, has_session};
-use crate::left_rows::left_rows;
 use crate::operations::operation_at;
 use crate::work::is_raw_ins;
 use adn::PlanError;
@@ -152,7 +151,7 @@ fn decided_answer(
     match done_publication(begun, turn) {
         None => Ok(None),
         Some(publication) => {
-            let left = left_rows(alloc, &begun.editing, decided)?;
+            let left = begun.editing.left_rows(alloc, *decided)?;
             Ok(Some(Answer::Done {
                 event: decided.event,
                 publication,

@@ -9,7 +9,6 @@ mod edits;
 mod events;
 mod fits;
 mod holdings;
-mod left_rows;
 mod next_line;
 mod open;
 mod operations;

@@ -144,7 +144,7 @@ fn an_edit_reads_first(rt: HostRuntime) -> Result<(), Fail> {
     }
     for op in 0..2 {
         let decision = decision_at_begin(rt.alloc(), &NoPlans, &script, &kept, 1, op)?;
-        match decision.work {
+        match &decision.work {
             Work::Reads(path) => assert_eq!(rt; path.ids(), [0x7FFF, 0x6F3B].as_slice()),
             _ => return Err("a reading".into()),
         }
