@@ -3,3 +3,4 @@ pub mod RoomLeft
 pub mod Held
 pub mod OwnFinal
 pub mod FirstJobs
+pub mod WholeExchange
