@@ -24,8 +24,8 @@ abbrev pub with_own : ℕ → CommandValue → ResponseValue → Option Operatio
 with_own a c r op facts k = record k {
   jobs = change_at a (λ (job : Job). record job {
     begun = option_map (begun_exchanged (edit_of op) k.selected k.chain facts.event c r) job.begun;
-    readings = readings_exchanged k.selected facts.answered job.readings
-  }) k.jobs
+    readings = readings_exchanged k.selected facts.answered job.readings;
+  }) k.jobs;
 }
 
 abbrev pub with_turn : ℕ → Option Operation → Facts → Option RefusedReading → Kept → Kept
@@ -35,27 +35,27 @@ abbrev pub with_files : Line → Facts → Option CachedFile → Kept → Kept
 with_files l facts completed k = record k { files = files_behind l facts.touch k.selected completed k.files }
 
 whole : (s : Script) (a : ℕ) (c : CommandValue) (r : ResponseValue) (k : Kept) →
-  fields_behind s (line.Exchange a c r) (facts_of s (line.Exchange a c r) k)
+    fields_behind s (line.Exchange a c r) (facts_of s (line.Exchange a c r) k)
     (refused_of k.selected (with_jobs_beside (line.Exchange a c r) (facts_of s (line.Exchange a c r) k) k).jobs (facts_of s (line.Exchange a c r) k).answered)
     (with_files (line.Exchange a c r) (facts_of s (line.Exchange a c r) k)
-      (completed_of (is_started k.startup) k.selected (with_jobs_beside (line.Exchange a c r) (facts_of s (line.Exchange a c r) k) k).jobs (facts_of s (line.Exchange a c r) k).answered)
-      (with_turn a (operation_now s a k.jobs) (facts_of s (line.Exchange a c r) k)
-        (refused_of k.selected (with_jobs_beside (line.Exchange a c r) (facts_of s (line.Exchange a c r) k) k).jobs (facts_of s (line.Exchange a c r) k).answered)
-        (with_own a c r (operation_now s a k.jobs) (facts_of s (line.Exchange a c r) k)
-          (with_jobs_beside (line.Exchange a c r) (facts_of s (line.Exchange a c r) k) k))))
-  ≡ kept_after s (line.Exchange a c r) k
+    (completed_of (is_started k.startup) k.selected (with_jobs_beside (line.Exchange a c r) (facts_of s (line.Exchange a c r) k) k).jobs (facts_of s (line.Exchange a c r) k).answered)
+    (with_turn a (operation_now s a k.jobs) (facts_of s (line.Exchange a c r) k)
+    (refused_of k.selected (with_jobs_beside (line.Exchange a c r) (facts_of s (line.Exchange a c r) k) k).jobs (facts_of s (line.Exchange a c r) k).answered)
+    (with_own a c r (operation_now s a k.jobs) (facts_of s (line.Exchange a c r) k)
+    (with_jobs_beside (line.Exchange a c r) (facts_of s (line.Exchange a c r) k) k))))
+    ≡ kept_after s (line.Exchange a c r) k
 whole s a c r k = refl
 
 pub whole_exchange : (s : Script) (l : Line) (a : ℕ) (c : CommandValue) (r : ResponseValue) (k k1 k2 k3 k4 : Kept) (op : Option Operation) (facts : Facts) (refused : Option RefusedReading) (completed : Option CachedFile) →
-  l ≡ line.Exchange a c r →
-  facts ≡ facts_of s l k →
-  op ≡ operation_now s a k.jobs →
-  k1 ≡ with_jobs_beside l facts k →
-  refused ≡ refused_of k1.selected k1.jobs facts.answered →
-  completed ≡ completed_of (is_started k1.startup) k1.selected k1.jobs facts.answered →
-  k2 ≡ with_own a c r op facts k1 →
-  k3 ≡ with_turn a op facts refused k2 →
-  k4 ≡ with_files l facts completed k3 →
-  fields_behind s l facts refused k4 ≡ kept_after s (line.Exchange a c r) k
+    l ≡ line.Exchange a c r →
+    facts ≡ facts_of s l k →
+    op ≡ operation_now s a k.jobs →
+    k1 ≡ with_jobs_beside l facts k →
+    refused ≡ refused_of k1.selected k1.jobs facts.answered →
+    completed ≡ completed_of (is_started k1.startup) k1.selected k1.jobs facts.answered →
+    k2 ≡ with_own a c r op facts k1 →
+    k3 ≡ with_turn a op facts refused k2 →
+    k4 ≡ with_files l facts completed k3 →
+    fields_behind s l facts refused k4 ≡ kept_after s (line.Exchange a c r) k
 whole_exchange s l a c r k k1 k2 k3 k4 op facts refused completed e-line e-facts e-op e1 e-refused e-completed e2 e3 e4 =
-  rw e4 (rw e3 (rw e2 (rw e-completed (rw e-refused (rw e1 (rw e-op (rw e-facts (rw e-line (whole s a c r k)))))))))
+    rw e4 (rw e3 (rw e2 (rw e-completed (rw e-refused (rw e1 (rw e-op (rw e-facts (rw e-line (whole s a c r k)))))))))

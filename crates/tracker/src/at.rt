@@ -67,8 +67,8 @@ pub fn fail_at<'x>(
 )
     requires { list_all own_has_room jobs.old ≡ true }
     ensures { jobs.new ≡ change_at actor (λ (job : Job). record job {
-        begun = option_map (rules.begun_failed (rules.edit_of (option_copied operation.entry))
-            (option_copied selected.entry) (option_copied chain.entry) event command.now) job.begun
+      begun = option_map (rules.begun_failed (rules.edit_of (option_copied operation.entry))
+          (option_copied selected.entry) (option_copied chain.entry) event command.now) job.begun;
     }) jobs.old }
 {
     let sent = Sent {
@@ -96,12 +96,7 @@ pub fn answer_at(
         (rules.job_answered (option_copied operation.entry) answer.now publications) jobs.old }
 {
     if (actor as usize) < jobs.len() {
-        job_answered(
-            operation,
-            answer,
-            publications,
-            jobs.at_mut(actor as usize),
-        );
+        job_answered(operation, answer, publications, jobs.at_mut(actor as usize));
     }
 }
 
@@ -137,9 +132,9 @@ pub fn exchange_at<'x>(
     ensures value { IfOk result (λ file. file ≡ file_completed started
         (option_copied answered.entry) (option_copied selected.entry) (job_of actor jobs.old).readings) }
     ensures jobs { OnOk result (jobs.new ≡ change_at actor (λ (job : Job). record job {
-        begun = option_map (rules.begun_exchanged (rules.edit_of (option_copied operation.entry))
-            (option_copied selected.entry) (option_copied chain.entry) event command.now response.now) job.begun;
-        readings = load.readings_exchanged (option_copied selected.entry) (option_copied answered.entry) job.readings
+      begun = option_map (rules.begun_exchanged (rules.edit_of (option_copied operation.entry))
+          (option_copied selected.entry) (option_copied chain.entry) event command.now response.now) job.begun;
+      readings = load.readings_exchanged (option_copied selected.entry) (option_copied answered.entry) job.readings;
     }) jobs.old) }
     ensures fits { OnOk result (begun_fits (begun_of actor jobs.new) ≡ true) }
 {

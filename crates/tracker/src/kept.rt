@@ -7,9 +7,7 @@ ghost use Rattle.tracker.specs.Fields as fields;
 ghost use Rattle.tracker.specs.Room.{CountsOn, HasRoom, own_has_room};
 
 use crate::facts::facts_of;
-use crate::fields::{
-    chain_behind, files_beside, owed_behind, selection_behind, startup_behind,
-};
+use crate::fields::{chain_behind, files_beside, owed_behind, selection_behind, startup_behind};
 use crate::history::history_after;
 use crate::holdings::handles_beside;
 use crate::jobs::jobs_beside;
@@ -58,8 +56,10 @@ pub fn keep_fields(
 /// What the line does to every job.
 pub fn keep_jobs(alloc: Global, line: &Line, facts: &Facts, kept: &mut Kept)
     requires { HasRoom kept.old }
-    ensures jobs { kept.new ≡ record kept.old { jobs = rules.jobs_beside line.now
-        kept.old.history.epoch facts.now kept.old.selected kept.old.jobs } }
+    ensures jobs { kept.new ≡ record kept.old {
+      jobs = rules.jobs_beside line.now
+          kept.old.history.epoch facts.now kept.old.selected kept.old.jobs;
+    } }
     ensures room { list_all own_has_room kept.new.jobs ≡ true }
 {
     jobs_beside(

@@ -16,8 +16,8 @@ ghost use Rattle.tracker.specs.Room.{HasRoom, begun_fits, line_fits, operation_f
 use crate::at::{answer_at, exchange_at, fail_at};
 use crate::facts::facts_of;
 use crate::fields::files_behind;
-use crate::kept::{keep_fields, keep_jobs, keep_rest};
 use crate::holdings::hold;
+use crate::kept::{keep_fields, keep_jobs, keep_rest};
 use crate::operations::{first_job, operation_at, operation_now, readings_of};
 use crate::turn::{turn_exchanged, turn_failed, turn_given};
 use apdu::{Command, Memory, Path, Response};
@@ -100,9 +100,11 @@ fn lead_turn(
 )
     requires operation { operation_fits (option_copied operation) ≡ true }
     requires attempt { begun_fits (begun_of actor kept.old.jobs) ≡ true }
-    ensures { kept.new ≡ record kept.old { turn = rules.turn_exchanged (option_copied operation.entry)
-        (job_of actor kept.old.jobs) (held_numbers kept.old.history kept.old.handles) facts.now
-        (option_copied refused.entry) kept.old.turn } }
+    ensures { kept.new ≡ record kept.old {
+      turn = rules.turn_exchanged (option_copied operation.entry)
+          (job_of actor kept.old.jobs) (held_numbers kept.old.history kept.old.handles) facts.now
+          (option_copied refused.entry) kept.old.turn;
+    } }
 {
     match kept.jobs.get(actor as usize) {
         Some(job) => turn_exchanged(
@@ -143,12 +145,12 @@ fn exchange_own(
     ensures value { IfOk result (λ file. file ≡ rules.completed_of
         (rules.is_started kept.old.startup) kept.old.selected kept.old.jobs facts.now.answered) }
     ensures kept { OnOk result (kept.new ≡ record kept.old {
-        jobs = change_at actor (λ (job : Job). record job {
-            begun = option_map (rules.begun_exchanged
-                (rules.edit_of (option_copied operation.entry)) kept.old.selected kept.old.chain
-                facts.now.event command.now response.now) job.begun;
-            readings = load.readings_exchanged kept.old.selected facts.now.answered job.readings
-        }) kept.old.jobs
+      jobs = change_at actor (λ (job : Job). record job {
+        begun = option_map (rules.begun_exchanged
+            (rules.edit_of (option_copied operation.entry)) kept.old.selected kept.old.chain
+            facts.now.event command.now response.now) job.begun;
+        readings = load.readings_exchanged kept.old.selected facts.now.answered job.readings;
+      }) kept.old.jobs;
     }) }
     ensures fits { OnOk result (begun_fits (begun_of actor kept.new.jobs) ≡ true) }
 {
@@ -174,8 +176,10 @@ fn exchange_current_files(
     completed: Option<CachedFile>,
     kept: &mut Kept,
 ) -> Result<(), Memory>
-    ensures { OnOk result (kept.new ≡ record kept.old { files = files_after_line line.now
-        facts.now.touch kept.old.selected completed kept.old.files }) }
+    ensures { OnOk result (kept.new ≡ record kept.old {
+      files = files_after_line line.now
+          facts.now.touch kept.old.selected completed kept.old.files;
+    }) }
 {
     files_behind(
         alloc,
@@ -205,11 +209,7 @@ fn keep_exchange_of(
     let facts = facts_of(script, line, kept);
     let operation = operation_now(script, actor, &kept.jobs);
     keep_jobs(alloc, line, &facts, kept);
-    let refused = refused_of(
-        kept.selected.as_ref(),
-        &kept.jobs,
-        facts.answered.as_ref(),
-    );
+    let refused = refused_of(kept.selected.as_ref(), &kept.jobs, facts.answered.as_ref());
     let completed = exchange_own(alloc, operation, actor, command, response, &facts, kept)?;
     lead_turn(alloc, operation, actor, &facts, refused.as_ref(), kept);
     exchange_current_files(alloc, line, &facts, completed, kept)?;
@@ -293,13 +293,7 @@ fn keep_answered_of(
         &mut kept.sessions,
     )?;
     keep_jobs(alloc, line, &facts, kept);
-    answer_at(
-        actor,
-        operation,
-        answer,
-        kept.publications,
-        &mut kept.jobs,
-    );
+    answer_at(actor, operation, answer, kept.publications, &mut kept.jobs);
     keep_rest(alloc, script, line, &facts, kept);
     turn_given(&mut kept.turn);
     Ok(())

@@ -3,7 +3,6 @@ ghost use Rattle.std.specs.Prelude.{◌≡◌, ◌==◌, ◌+◌, ◌<◌, ◌^�
 ghost use Rattle.std.specs.Option.{option_copied};
 ghost use Rattle.apdu.specs.Apdu.{is_update_ins as is_update_instruction, verify_ins};
 ghost use Rattle.apdu.specs.Words.{same_number as same_numbers};
-
 ghost use Rattle.loader.specs.Load as load;
 ghost use Rattle.rules.specs.After as rules;
 ghost use Rattle.rules.specs.Watching.{mailbox_after as mailbox_after_answer};
@@ -207,11 +206,7 @@ fn begun_failed(sent: &Sent, begun: &mut Begun)
     );
 }
 
-fn exchange_begun(
-    sent: &Sent,
-    response: &Response,
-    begun: &mut Option<Begun>,
-) -> Result<(), Memory>
+fn exchange_begun(sent: &Sent, response: &Response, begun: &mut Option<Begun>) -> Result<(), Memory>
     requires { begun_has_room begun.old ≡ true }
     ensures { OnOk result (begun.new ≡ option_map (rules.begun_exchanged
         (rules.edit_of (option_copied sent.now.operation)) (option_copied sent.now.selected)
@@ -267,12 +262,12 @@ pub fn job_exchanged(
     ensures value { IfOk result (λ file. file ≡ finished.file_completed started (option_copied answered.entry)
         (option_copied sent.now.selected) job.old.readings) }
     ensures ok { OnOk result (job.new ≡ record job.old {
-        begun = option_map (rules.begun_exchanged
-            (rules.edit_of (option_copied sent.now.operation)) (option_copied sent.now.selected)
-            (option_copied sent.now.chain) sent.now.event sent.now.command.now response.now)
-            job.old.begun;
-        readings = load.readings_exchanged (option_copied sent.now.selected)
-            (option_copied answered.entry) job.old.readings;
+      begun = option_map (rules.begun_exchanged
+          (rules.edit_of (option_copied sent.now.operation)) (option_copied sent.now.selected)
+          (option_copied sent.now.chain) sent.now.event sent.now.command.now response.now)
+          job.old.begun;
+      readings = load.readings_exchanged (option_copied sent.now.selected)
+          (option_copied answered.entry) job.old.readings;
     }) }
     ensures fits { OnOk result (begun_fits job.new.begun ≡ true) }
 {
@@ -289,9 +284,11 @@ pub fn job_exchanged(
 /// A command of the actor failed.
 pub fn job_failed(sent: &Sent, job: &mut Job)
     requires { begun_has_room job.old.begun ≡ true }
-    ensures { job.new ≡ record job.old { begun = option_map (rules.begun_failed
-        (rules.edit_of (option_copied sent.now.operation)) (option_copied sent.now.selected)
-        (option_copied sent.now.chain) sent.now.event sent.now.command.now) job.old.begun } }
+    ensures { job.new ≡ record job.old {
+      begun = option_map (rules.begun_failed
+          (rules.edit_of (option_copied sent.now.operation)) (option_copied sent.now.selected)
+          (option_copied sent.now.chain) sent.now.event sent.now.command.now) job.old.begun;
+    } }
 {
     fail_begun(sent, &mut job.begun);
 }

@@ -95,14 +95,7 @@ impl Tracker {
         requires room { HasRoom self.old }
         ensures { self.new ≡ kept_after script.now (Line.Begin actor op) self.old }
     {
-        keep_begin(
-            self.alloc,
-            script,
-            actor,
-            op,
-            decision,
-            &mut self.kept,
-        );
+        keep_begin(self.alloc, script, actor, op, decision, &mut self.kept);
     }
 
     /// A command was sent, and the card answered. Behind want of memory nothing is promised of what is kept.
@@ -162,14 +155,7 @@ impl Tracker {
         requires { HasRoom self.old }
         ensures { self.new ≡ kept_after script.now (Line.EpochEnd number epoch event) self.old }
     {
-        keep_epoch_end(
-            self.alloc,
-            script,
-            number,
-            epoch,
-            event,
-            &mut self.kept,
-        );
+        keep_epoch_end(self.alloc, script, number, epoch, event, &mut self.kept);
     }
 
     /// The framework's reading of a family was refused.
