@@ -11,6 +11,8 @@ mod lines;
 #[cfg(test)]
 mod loads;
 #[cfg(test)]
+mod planned;
+#[cfg(test)]
 mod reports;
 #[cfg(test)]
 mod shown;

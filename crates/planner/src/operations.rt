@@ -1,13 +1,10 @@
 // The operations of a script, and what is kept of the actors.
-ghost use Rattle.std.specs.Prelude.{◌≡◌};
+ghost use Rattle.std.specs.Prelude.{◌≡◌, length};
 ghost use Rattle.std.specs.Option.{option_copied};
 ghost use Rattle.rules.specs.Kept as rules;
 
-use apdu::Sequence;
-use loader::Reading;
-use rules::{Begun, Job, Jobs};
+use rules::{Begun, Jobs};
 use script::{Operation, Script};
-use std::alloc::Global;
 
 /// The operation of this number, from 0, of an actor.
 pub fn operation_at(script: &Script, actor: u8, op: u32) -> Option<&Operation>
@@ -22,27 +19,26 @@ pub fn operation_at(script: &Script, actor: u8, op: u32) -> Option<&Operation>
     }
 }
 
-/// What is kept of an actor before its first line.
-pub fn first_job(alloc: Global) -> Job
-    ensures { result ≡ rules.first_job }
+/// How many operations an actor has.
+pub fn operation_count(script: &Script, actor: u8) -> usize
+    ensures { result ≡ length (rules.operations_of script.now actor) }
 {
-    Job {
-        answered: 0,
-        seen: 0,
-        begun: None,
-        readings: Sequence::new(alloc),
-        family: None,
-        mailbox: None,
+    if actor == 0 {
+        return 0;
+    }
+    match script.actors.get(actor as usize - 1) {
+        None => 0,
+        Some(operations) => operations.len(),
     }
 }
 
-/// The readings of an actor.
-pub fn readings_of(actor: u8, jobs: &Jobs) -> &[Reading]
-    ensures { result.now ≡ (rules.job_of actor jobs.now).readings }
+/// How many operations of an actor are answered.
+pub fn answered_of(actor: u8, jobs: &Jobs) -> u32
+    ensures { result ≡ (rules.job_of actor jobs.now).answered }
 {
     match jobs.get(actor as usize) {
-        None => &[],
-        Some(job) => job.readings.as_slice(),
+        None => 0,
+        Some(job) => job.answered,
     }
 }
 

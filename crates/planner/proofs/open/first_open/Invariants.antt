@@ -1,6 +1,6 @@
 use Rattle.std.proofs.Common.{◌≡◌, drop}
 use Rattle.rules.specs.Work.{first_actor, has_operations_left}
-use Rattle.tracker.proofs.open.first_open.Given as goal
+use Rattle.planner.proofs.open.first_open.Given as goal
 
 -- no actor so far passes
 abbrev pub invariant-loop-i : goal.invariant-loop-i

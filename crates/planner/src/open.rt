@@ -1,23 +1,35 @@
 // What is open, and who waits for whom.
-ghost use Rattle.std.specs.Prelude.{◌≡◌, ◌≤◌, length};
-ghost use Rattle.rules.specs.Kept as kept_words;
-ghost use Rattle.rules.specs.Work as work;
+ghost use Rattle.std.specs.Prelude.{◌≡◌, ◌≤◌, not, length};
+ghost use Rattle.std.specs.List.{list_any};
+ghost use Rattle.rules.specs.Standing as standing;
+ghost use Rattle.rules.specs.Work as spec;
 
-use crate::operations::{begun_of, operation_at, operation_now};
-use crate::standings::first_stale;
+use crate::operations::{answered_of, begun_of, operation_at, operation_count, operation_now};
 use refresher::STARTUP_STEPS;
-use rules::Kept;
+use rules::{Job, Kept, Standing};
 use script::{Operation, Script};
 
-/// Whether start-up is unfinished.
+// ---- open work
+
+/// The first stale family.
+pub(crate) fn first_stale(standings: &[Standing]) -> Option<u8>
+    ensures { result ≡ standing.first_stale standings.now }
+{
+    standings
+        .iter()
+        .find(|s| s.stale.is_some())
+        .map(|s| s.family)
+}
+
+/// Whether start-up of the living epoch is unfinished.
 pub fn is_starting(kept: &Kept) -> bool
-    ensures { result ≡ work.is_starting kept.now }
+    ensures { result ≡ spec.is_starting kept.now }
 {
     kept.history.living && kept.startup < STARTUP_STEPS
 }
 
 fn has_work_alive(kept: &Kept) -> bool
-    ensures { result ≡ work.has_work_alive kept.now }
+    ensures { result ≡ spec.has_work_alive kept.now }
 {
     is_starting(kept)
         || kept.owed.is_some()
@@ -27,42 +39,41 @@ fn has_work_alive(kept: &Kept) -> bool
 
 /// Whether the framework has something to do.
 pub fn has_work(kept: &Kept) -> bool
-    ensures { result ≡ work.has_work kept.now }
+    ensures { result ≡ spec.has_work kept.now }
 {
     kept.history.owes_reset || kept.history.living && has_work_alive(kept)
 }
 
-fn answered_of(kept: &Kept, actor: u8) -> u32
-    ensures { result ≡ (kept_words.job_of actor kept.now.jobs).answered }
+fn has_begun(job: &Job) -> bool
+    ensures { result ≡ spec.has_begun job.now }
 {
-    match kept.jobs.get(actor as usize) {
-        None => 0,
-        Some(job) => job.answered,
-    }
+    job.begun.is_some()
 }
 
-fn operation_count(script: &Script, actor: u8) -> usize
-    ensures { result ≡ length (kept_words.operations_of script.now actor) }
+fn has_begun_any(jobs: &[Job]) -> bool
+    ensures { result ≡ list_any spec.has_begun jobs.now }
 {
-    if actor == 0 {
-        return 0;
-    }
-    match script.actors.get(actor as usize - 1) {
-        None => 0,
-        Some(operations) => operations.len(),
-    }
+    jobs.iter().any(|job| has_begun(job))
 }
 
-fn has_operations_left(script: &Script, kept: &Kept, actor: u8) -> bool
-    ensures { result ≡ work.has_operations_left script.now kept.now actor }
+/// Whether no operation is under way, and the framework has nothing to do.
+pub fn is_quiet(kept: &Kept) -> bool
+    ensures { result ≡ spec.is_quiet kept.now }
 {
-    (answered_of(kept, actor) as usize) < operation_count(script, actor)
+    !has_begun_any(kept.jobs.as_slice()) && !has_work(kept)
+}
+
+/// Whether an actor has operations that are not answered.
+pub fn has_operations_left(script: &Script, kept: &Kept, actor: u8) -> bool
+    ensures { result ≡ spec.has_operations_left script.now kept.now actor }
+{
+    (answered_of(actor, &kept.jobs) as usize) < operation_count(script, actor)
 }
 
 // The lowest actor that has operations left.
 fn first_open(script: &Script, kept: &Kept) -> Option<u8>
     requires { length script.now.actors ≤ 254 }
-    ensures { result ≡ work.first_actor (work.has_operations_left script.now kept.now) 0
+    ensures { result ≡ spec.first_actor (spec.has_operations_left script.now kept.now) 0
         script.now.actors }
 {
     for (i, _) in script.actors.as_slice().iter().enumerate() {
@@ -74,8 +85,18 @@ fn first_open(script: &Script, kept: &Kept) -> Option<u8>
     None
 }
 
+/// Whether every operation is answered, and the framework has nothing to do.
+pub fn is_finished(script: &Script, kept: &Kept) -> bool
+    requires { length script.now.actors ≤ 254 }
+    ensures { result ≡ spec.is_finished script.now kept.now }
+{
+    first_open(script, kept).is_none() && !has_work(kept)
+}
+
+// ---- who waits, and for whom
+
 fn needs_card(operation: &Operation) -> bool
-    ensures { result ≡ work.needs_card operation.now }
+    ensures { result ≡ spec.needs_card operation.now }
 {
     match operation {
         Operation::Load { .. }
@@ -89,7 +110,7 @@ fn needs_card(operation: &Operation) -> bool
 }
 
 fn is_edit_of(family: u8, operation: &Operation) -> bool
-    ensures { result ≡ work.is_edit_of family operation.now }
+    ensures { result ≡ spec.is_edit_of family operation.now }
 {
     match operation {
         Operation::Set { family: edited, .. } => *edited == family,
@@ -99,7 +120,7 @@ fn is_edit_of(family: u8, operation: &Operation) -> bool
 }
 
 fn edits_family(script: &Script, kept: &Kept, family: u8, actor: u8) -> bool
-    ensures { result ≡ work.edits_family script.now kept.now family actor }
+    ensures { result ≡ spec.edits_family script.now kept.now family actor }
 {
     match operation_now(script, actor, &kept.jobs) {
         None => false,
@@ -110,7 +131,7 @@ fn edits_family(script: &Script, kept: &Kept, family: u8, actor: u8) -> bool
 // The lowest actor that has an edit of this family under way.
 fn first_editor(script: &Script, kept: &Kept, family: u8) -> Option<u8>
     requires { length script.now.actors ≤ 254 }
-    ensures { result ≡ work.first_actor (work.edits_family script.now kept.now family) 0
+    ensures { result ≡ spec.first_actor (spec.edits_family script.now kept.now family) 0
         script.now.actors }
 {
     for (i, _) in script.actors.as_slice().iter().enumerate() {
@@ -124,7 +145,7 @@ fn first_editor(script: &Script, kept: &Kept, family: u8) -> Option<u8>
 
 fn edited_by(script: &Script, kept: &Kept, operation: &Operation) -> Option<u8>
     requires { length script.now.actors ≤ 254 }
-    ensures { result ≡ work.edited_by script.now kept.now operation.now }
+    ensures { result ≡ spec.edited_by script.now kept.now operation.now }
 {
     match operation {
         Operation::Set { family, .. } => first_editor(script, kept, *family),
@@ -135,7 +156,7 @@ fn edited_by(script: &Script, kept: &Kept, operation: &Operation) -> Option<u8>
 
 fn operation_waits_on(script: &Script, kept: &Kept, operation: &Operation) -> Option<u8>
     requires { length script.now.actors ≤ 254 }
-    ensures { result ≡ work.operation_waits_on script.now kept.now operation.now }
+    ensures { result ≡ spec.operation_waits_on script.now kept.now operation.now }
 {
     if !kept.history.living {
         None
@@ -148,18 +169,19 @@ fn operation_waits_on(script: &Script, kept: &Kept, operation: &Operation) -> Op
 
 fn next_waits_on(script: &Script, kept: &Kept, actor: u8) -> Option<u8>
     requires { length script.now.actors ≤ 254 }
-    ensures { result ≡ work.next_waits_on script.now kept.now actor }
+    ensures { result ≡ spec.next_waits_on script.now kept.now actor }
 {
-    match operation_at(script, actor, answered_of(kept, actor)) {
+    match operation_at(script, actor, answered_of(actor, &kept.jobs)) {
         None => None,
         Some(operation) => operation_waits_on(script, kept, operation),
     }
 }
 
-/// Whom a turn of the actor would wait for.
+/// Whom a turn of the actor would wait for: the framework, which starts the card up, the actor that
+/// edits the same family, and for the framework without work the lowest actor that has operations left.
 pub fn waits_on(script: &Script, kept: &Kept, actor: u8) -> Option<u8>
     requires { length script.now.actors ≤ 254 }
-    ensures { result ≡ work.waits_on script.now kept.now actor }
+    ensures { result ≡ spec.waits_on script.now kept.now actor }
 {
     if actor == 0 {
         if has_work(kept) {
@@ -174,18 +196,10 @@ pub fn waits_on(script: &Script, kept: &Kept, actor: u8) -> Option<u8>
     }
 }
 
-/// Whether every operation is answered, and nothing is open.
-pub fn is_finished(script: &Script, kept: &Kept) -> bool
-    requires { length script.now.actors ≤ 254 }
-    ensures { result ≡ work.is_finished script.now kept.now }
-{
-    first_open(script, kept).is_none() && !has_work(kept)
-}
-
 /// Whether a turn of the actor would find nothing left.
 pub fn has_ended(script: &Script, kept: &Kept, actor: u8) -> bool
     requires { length script.now.actors ≤ 254 }
-    ensures { result ≡ work.has_ended script.now kept.now actor }
+    ensures { result ≡ spec.has_ended script.now kept.now actor }
 {
     if actor == 0 {
         is_finished(script, kept)
@@ -197,7 +211,7 @@ pub fn has_ended(script: &Script, kept: &Kept, actor: u8) -> bool
 /// Whether a turn of the actor would wait, or find nothing left.
 pub fn is_idle(script: &Script, kept: &Kept, actor: u8) -> bool
     requires { length script.now.actors ≤ 254 }
-    ensures { result ≡ work.is_idle script.now kept.now actor }
+    ensures { result ≡ spec.is_idle script.now kept.now actor }
 {
     has_ended(script, kept, actor) || waits_on(script, kept, actor).is_some()
 }

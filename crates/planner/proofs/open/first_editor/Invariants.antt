@@ -1,6 +1,6 @@
 use Rattle.std.proofs.Common.{◌≡◌, drop}
 use Rattle.rules.specs.Work.{first_actor, edits_family}
-use Rattle.tracker.proofs.open.first_editor.Given as goal
+use Rattle.planner.proofs.open.first_editor.Given as goal
 
 -- no actor so far passes
 abbrev pub invariant-loop-i : goal.invariant-loop-i
