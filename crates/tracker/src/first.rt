@@ -3,7 +3,7 @@ ghost use Rattle.std.specs.Prelude.{◌≡◌, ◌+◌, ◌<◌, ◌^◌, ◌++�
 ghost use Rattle.rules.specs.Kept as rules;
 ghost use Rattle.rules.specs.Standing.{first_standing as first_standing_of};
 
-use crate::operations::first_job;
+use crate::actors::first_job;
 use apdu::{Memory, Sequence};
 use epoch_cache::Past;
 use rules::{Jobs, Kept, Stage, Standing, Turn, Work};

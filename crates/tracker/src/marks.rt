@@ -7,11 +7,10 @@ ghost use Rattle.tracker.specs.Room.{HasRoom};
 
 use crate::at::{begin_at, mark_actor, mark_framework};
 use crate::kept::keep_plain;
-use crate::open::is_idle;
-use crate::operations::operation_at;
 use crate::own::fresh_begun;
 use crate::turn::turn_begun;
-use crate::work::{family_at, family_of_begun, family_read, framework_work};
+use crate::family::{family_at, family_of_begun};
+use planner::{family_read, framework_work, is_idle, operation_at};
 use report::Line;
 use rules::{Decision, Kept, Stage, Turn, Work};
 use script::Script;

@@ -5,9 +5,9 @@ ghost use Rattle.std.specs.Option.{option_copied};
 ghost use Rattle.families.specs.Plans.{plan_updates, some_first};
 ghost use Rattle.tracker.specs.Room as room;
 
-use crate::operations::operation_now;
 use adn::{Plan, RowUpdate};
 use editor::Attempt;
+use planner::operation_now;
 use report::Line;
 use rules::{Begun, Job, Jobs, Kept};
 use script::{Operation, Script};

@@ -6,10 +6,10 @@ ghost use Rattle.rules.specs.After.{family_begun as begun_family};
 ghost use Rattle.rules.specs.Standing as rules;
 
 use crate::lists::{Change, change_all};
-use crate::operations::operation_at;
 use editor::{family_paths, has_path};
 use epoch_cache::Touch;
 use loader::RefusedReading;
+use planner::operation_at;
 use report::Line;
 use rules::Standing;
 use script::{Operation, Script};
@@ -162,14 +162,4 @@ pub fn standings_behind(look: &Look, standings: &mut [Standing])
         look.now.touch.now (option_copied look.now.refused) look.now.begun) standings.old }
 {
     change_all(standings, look);
-}
-
-/// The first stale family.
-pub fn first_stale(standings: &[Standing]) -> Option<u8>
-    ensures { result ≡ rules.first_stale standings.now }
-{
-    standings
-        .iter()
-        .find(|s| s.stale.is_some())
-        .map(|s| s.family)
 }
