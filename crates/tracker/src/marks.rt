@@ -6,10 +6,10 @@ ghost use Rattle.tracker.specs.Marks as marks;
 ghost use Rattle.tracker.specs.Room.{HasRoom};
 
 use crate::at::{begin_at, mark_actor, mark_framework};
+use crate::family::{family_at, family_of_begun};
 use crate::kept::keep_plain;
 use crate::own::fresh_begun;
 use crate::turn::turn_begun;
-use crate::family::{family_at, family_of_begun};
 use planner::{family_read, framework_work, is_idle, operation_at};
 use report::Line;
 use rules::{Decision, Kept, Stage, Turn, Work};

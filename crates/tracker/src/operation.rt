@@ -13,12 +13,12 @@ ghost use Rattle.rules.specs.declared.kept.Job.{Job};
 ghost use Rattle.tracker.specs.Lines.{is_answered, is_exchange, is_failed};
 ghost use Rattle.tracker.specs.Room.{HasRoom, begun_fits, line_fits, operation_fits, own_has_room};
 
+use crate::actors::{first_job, readings_of};
 use crate::at::{answer_at, exchange_at, fail_at};
 use crate::facts::facts_of;
 use crate::fields::files_behind;
 use crate::holdings::hold;
 use crate::kept::{keep_fields, keep_jobs, keep_rest};
-use crate::actors::{first_job, readings_of};
 use crate::turn::{turn_exchanged, turn_failed, turn_given};
 use apdu::{Command, Memory, Path, Response};
 use epoch_cache::CachedFile;
