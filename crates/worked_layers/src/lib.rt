@@ -7,8 +7,6 @@ mod exchanges;
 #[cfg(test)]
 mod kept;
 #[cfg(test)]
-mod lines;
-#[cfg(test)]
 mod loads;
 #[cfg(test)]
 mod planned;
