@@ -9,6 +9,8 @@ mod kept;
 #[cfg(test)]
 mod loads;
 #[cfg(test)]
+mod planned;
+#[cfg(test)]
 mod reports;
 #[cfg(test)]
 mod shown;
