@@ -1,0 +1,101 @@
+-- Laws of runs whose each line is the one that is due.
+use Rattle.std.specs.Prelude.{◌≡◌, ◌≤◌, ◌<◌, ◌*◌, ℕ, ◌+◌, ◌==◌, Bool, true, false, nat_lt, nat_le, List, [], ◌∷◌, length, Option, Some, None}
+use Rattle.std.specs.List.{list_all}
+use Rattle.script_reader.specs.declared.types.Script.{Script}
+use Rattle.script_reader.specs.Rules.{keeps_rules}
+use Rattle.report.specs.declared.line.Mode.{Mode}
+use Rattle.report.specs.declared.line.Line.{Line}
+use Rattle.report.specs.declared.line.Line.TheVariants as line
+use Rattle.report.specs.declared.lines.Report.{Report}
+use Rattle.editor.specs.Editing.{no_editing}
+use Rattle.rules.specs.declared.kept.Begun.{Begun}
+use Rattle.rules.specs.declared.kept.Job.{Job}
+use Rattle.rules.specs.declared.kept.Kept.{Kept}
+use Rattle.rules.specs.Work.{is_finished, is_idle}
+use Rattle.rules.specs.After.{is_mark, kept_after, kept_of}
+use Rattle.rules.specs.Due.{due}
+use Rattle.rules.specs.Kept.{actor_count}
+use Rattle.rules.specs.Legal.{are_legal_lines, legal}
+use Rattle.rules.specs.Performed.{ends_turn}
+use Rattle.performed.specs.Served.{serves}
+use Rattle.performed.specs.Followed.{are_followed, is_followed}
+use Rattle.performed.specs.Told.{are_told}
+use Rattle.performed.specs.Placed.{are_placed, is_turn_allowed}
+use Rattle.performed.specs.Measure.{steps_left}
+use Rattle.performed.specs.Progress.{operations_left, stale_count, Moves}
+
+-- ---- legality
+
+-- lines that are due, that show what the slot gave, and whose turns are those of the mode, break no rule
+abbrev pub LinesAreLegal : Type 0
+LinesAreLegal = (s : Script) (m : Mode) (lines : List Line) → keeps_rules s ≡ true → serves s ≡ true → are_followed s lines ≡ true → are_told s lines ≡ true → are_placed s m lines ≡ true → are_legal_lines s m lines ≡ true
+
+-- and neither does their end, where the run is finished and nothing is due in its last turn
+abbrev pub RunIsLegal : Type 0
+RunIsLegal = (r : Report) → keeps_rules r.script ≡ true → serves r.script ≡ true → are_followed r.script r.lines ≡ true → are_told r.script r.lines ≡ true → are_placed r.script r.mode r.lines ≡ true → is_turn_allowed r.mode (kept_of r.script r.lines).turn ≡ true → ends_turn (due r.script (kept_of r.script r.lines)) ≡ true → is_finished r.script (kept_of r.script r.lines) ≡ true → legal r ≡ true
+
+-- ---- turns end
+
+-- each line that is due within a turn leaves fewer steps in it
+abbrev pub TurnsEnd : Type 0
+TurnsEnd = (s : Script) (lines : List Line) (l : Line) → are_followed s (l ∷ lines) ≡ true → is_mark l ≡ false → nat_lt (steps_left (kept_of s (l ∷ lines))) (steps_left (kept_of s lines)) ≡ true
+
+-- ---- turns move
+
+-- a turn that neither waits nor finds nothing left has something to do
+abbrev pub MarksMove : Type 0
+MarksMove = (s : Script) (lines : List Line) (a : ℕ) → serves s ≡ true → are_followed s (line.Turn a ∷ lines) ≡ true → is_idle s (kept_of s lines) a ≡ false → ends_turn (due s (kept_of s (line.Turn a ∷ lines))) ≡ false
+
+-- so has one that begins an operation, also behind its first line
+abbrev pub BeginsMove : Type 0
+BeginsMove = (s : Script) (lines : List Line) (a i : ℕ) → serves s ≡ true → are_followed s (line.Begin a i ∷ lines) ≡ true → ends_turn (due s (kept_of s (line.Begin a i ∷ lines))) ≡ false
+
+-- an actor whose turn would move
+pub record IsAwake (s : Script) (k : Kept) : Type 0 where
+  pub actor : ℕ
+  pub valid : actor ≤ actor_count s
+  pub moves : is_idle s k actor ≡ false
+
+-- while the run is not finished, there is one
+abbrev pub SomebodyMoves : Type 0
+SomebodyMoves = (s : Script) (lines : List Line) → serves s ≡ true → are_followed s lines ≡ true → is_finished s (kept_of s lines) ≡ false → IsAwake s (kept_of s lines)
+
+-- nobody's turn would move once it is
+abbrev pub NobodyMoves : Type 0
+NobodyMoves = (s : Script) (k : Kept) (a : ℕ) → a ≤ actor_count s → is_finished s k ≡ true → is_idle s k a ≡ true
+
+-- ---- what is kept
+
+-- the counters are at most as many as the lines, and an actor's answers as its operations
+pub record AreCounted (n : ℕ) (k : Kept) : Type 0 where
+  pub events : k.history.events ≤ n
+  pub calls : k.history.calls ≤ n
+  pub epoch : k.history.epoch ≤ n
+  pub publications : k.publications ≤ n
+  pub marks : k.marks ≤ n
+
+abbrev pub KeepsCounts : Type 0
+KeepsCounts = (s : Script) (lines : List Line) → AreCounted (length lines) (kept_of s lines)
+
+-- an actor of a script that is served edits nothing, has no mailbox, and has answered at most its operations
+abbrev pub has_no_edit : Option Begun → Type 0
+has_no_edit None = Unit {0}
+has_no_edit (Some b) = b.editing ≡ no_editing
+
+pub record IsPlainJob (job : Job) : Type 0 where
+  pub answered : job.answered ≤ 1000
+  pub editing : has_no_edit job.begun
+  pub mailbox : job.mailbox ≡ None
+
+abbrev pub ArePlainJobs : List Job → Type 0
+ArePlainJobs [] = Unit {0}
+ArePlainJobs (job ∷ jobs) = IsPlainJob job × ArePlainJobs jobs
+
+-- nor does it hold a channel or a session
+pub record IsPlain (k : Kept) : Type 0 where
+  pub jobs : ArePlainJobs k.jobs
+  pub handles : k.handles ≡ []
+  pub sessions : k.sessions ≡ []
+
+abbrev pub StaysPlain : Type 0
+StaysPlain = (s : Script) (lines : List Line) → keeps_rules s ≡ true → serves s ≡ true → are_followed s lines ≡ true → IsPlain (kept_of s lines)

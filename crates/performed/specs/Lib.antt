@@ -1,0 +1,7 @@
+pub mod Served
+pub mod Followed
+pub mod Told
+pub mod Placed
+pub mod Measure
+pub mod Progress
+pub mod Laws

@@ -1,0 +1,16 @@
+-- The scripts that are served so far: insertions, loads and looks, without faults.
+use Rattle.std.specs.Prelude.{◌&&◌, Bool, true, false}
+use Rattle.std.specs.List.{list_all}
+use Rattle.apdu.specs.Words.{is_empty}
+use Rattle.script_reader.specs.declared.types.Script.{Script}
+use Rattle.script_reader.specs.declared.types.Operation.{Operation}
+use Rattle.script_reader.specs.declared.types.Operation.TheVariants as operation
+
+abbrev pub is_served : Operation → Bool
+is_served (operation.Insert card) = true
+is_served (operation.Load f) = true
+is_served operation.Look = true
+is_served op = false
+
+abbrev pub serves : Script → Bool
+serves s = list_all (list_all is_served) s.actors && is_empty s.faults
