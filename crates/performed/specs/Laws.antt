@@ -1,5 +1,5 @@
 -- Laws of runs whose each line is the one that is due.
-use Rattle.std.specs.Prelude.{◌≡◌, ◌≤◌, ◌<◌, ◌*◌, ℕ, ◌+◌, ◌==◌, Bool, true, false, nat_lt, nat_le, List, [], ◌∷◌, length, Option, Some, None}
+use Rattle.std.specs.Prelude.{◌≡◌, ◌≤◌, ◌<◌, ◌*◌, ℕ, ◌+◌, ◌==◌, ◌++◌, not, Bool, true, false, nat_lt, nat_le, List, [], ◌∷◌, length, Option, Some, None}
 use Rattle.std.specs.List.{list_all}
 use Rattle.script_reader.specs.declared.types.Script.{Script}
 use Rattle.script_reader.specs.Rules.{keeps_rules}
@@ -59,6 +59,24 @@ pub record IsAwake (s : Script) (k : Kept) : Type 0 where
 -- while the run is not finished, there is one
 abbrev pub SomebodyMoves : Type 0
 SomebodyMoves = (s : Script) (lines : List Line) → serves s ≡ true → are_followed s lines ≡ true → is_finished s (kept_of s lines) ≡ false → IsAwake s (kept_of s lines)
+
+-- a mark leaves open what is open
+pub record LeavesOpen (s : Script) (before after : Kept) : Type 0 where
+  pub events : after.history.events ≡ before.history.events
+  pub operations : operations_left s after ≡ operations_left s before
+  pub stale : after.standings ≡ before.standings
+  pub finished : is_finished s after ≡ is_finished s before
+  pub idle : (actor : ℕ) → is_idle s after actor ≡ is_idle s before actor
+
+abbrev pub MarksLeaveOpen : Type 0
+MarksLeaveOpen = (s : Script) (k : Kept) (a : ℕ) → LeavesOpen s k (kept_after s (line.Turn a) k)
+
+-- a whole turn that neither waits nor finds nothing left: it adds an event, answers an operation, or publishes what was stale
+abbrev pub has_no_mark : List Line → Bool
+has_no_mark lines = list_all (λ l. not (is_mark l)) lines
+
+abbrev pub TurnsMove : Type 0
+TurnsMove = (s : Script) (earlier added : List Line) (a : ℕ) → serves s ≡ true → are_followed s (added ++ line.Turn a ∷ earlier) ≡ true → has_no_mark added ≡ true → is_idle s (kept_of s earlier) a ≡ false → ends_turn (due s (kept_of s (added ++ line.Turn a ∷ earlier))) ≡ true → Moves s (kept_of s earlier) (kept_of s (added ++ line.Turn a ∷ earlier))
 
 -- nobody's turn would move once it is
 abbrev pub NobodyMoves : Type 0
