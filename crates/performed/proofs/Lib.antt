@@ -1,0 +1,3 @@
+mod ProgressActors
+mod ProgressJobs
+mod ProgressMarks

@@ -1,3 +1,10 @@
 //! Runs whose each line is the one that is due: they are legal, and their turns end and move. This crate has definitions, and laws, each
 //! the contract of a function that does nothing.
 #![tactic(auto)]
+
+mod progress;
+
+pub use progress::{
+    begun_operations_do_something, marks_leave_open, nobody_moves_once_finished,
+    somebody_moves_until_finished, turns_that_do_not_wait_do_something,
+};
