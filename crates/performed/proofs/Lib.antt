@@ -1,3 +1,5 @@
 mod ProgressActors
 mod ProgressJobs
 mod ProgressMarks
+mod ProgressServed
+mod ProgressSomebody

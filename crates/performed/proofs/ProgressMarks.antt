@@ -90,11 +90,11 @@ editing_of : (s : Script) (k : Kept) (o : Option (ℕ × Edit)) → editing_by s
 editing_of s k None = refl
 editing_of s k (Some e) = refl
 
-abbrev waiting_by : Script → Kept → Option Operation → Option ℕ
+abbrev pub waiting_by : Script → Kept → Option Operation → Option ℕ
 waiting_by s k None = None
 waiting_by s k (Some op) = operation_waits_on s k op
 
-waiting_of : (s : Script) (k : Kept) (o : Option Operation) → waiting_by s k o ≡ (elim o [ None ↦ None | Some op ↦ operation_waits_on s k op ])
+pub waiting_of : (s : Script) (k : Kept) (o : Option Operation) → waiting_by s k o ≡ (elim o [ None ↦ None | Some op ↦ operation_waits_on s k op ])
 waiting_of s k None = refl
 waiting_of s k (Some op) = refl
 
