@@ -3,3 +3,7 @@ mod ProgressJobs
 mod ProgressMarks
 mod ProgressServed
 mod ProgressSomebody
+mod ProgressBegins
+mod ProgressSound
+mod ProgressGoes
+mod ProgressMoves
