@@ -94,7 +94,7 @@ module _ (s : Script) (k : Kept) (i : ℕ) where
 
 -- ---- the operation is there
 
-nothing_below : (n : ℕ) → nat_lt n 0 ≡ true → ⊥
+pub nothing_below : (n : ℕ) → nat_lt n 0 ≡ true → ⊥
 nothing_below n h = grind arith
 
 one_less : (n m : ℕ) → nat_lt (suc n) (suc m) ≡ true → nat_lt n m ≡ true

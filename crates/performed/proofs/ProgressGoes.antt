@@ -24,7 +24,8 @@ use Rattle.rules.specs.History.{lives_in, is_living}
 use Rattle.rules.specs.Kept.{job_of, begun_of, operation_now}
 use Rattle.rules.specs.Work.{reads_first, work_of_operation, family_published, family_of_operation}
 use Rattle.rules.specs.declared.due.Due.{Due}
-use Rattle.rules.specs.Due.{first_command, first_of_turn, command_by_stage, command_by_chain, reset_by_stage, event_by_stage, event_of, is_resetting, published_by, answer_of_begun, answer_of_actor, due_of_actor, due_by_answer, due_by_publication, due_by_refusal, due_by_event, due_by_reset, due_by_command, due_by_end, due, due_command, is_reset_due, tried_event, due_publication, due_answer}
+use Rattle.apdu.specs.Words.{or_else}
+use Rattle.rules.specs.Due.{with_card, with_ended, is_lost, loaded, outcome_answer, first_command, first_of_turn, command_by_stage, command_by_chain, reset_by_stage, event_by_stage, event_of, is_resetting, published_by, answer_of_begun, answer_of_actor, due_of_actor, due_by_answer, due_by_publication, due_by_refusal, due_by_event, due_by_reset, due_by_command, due_by_end, due, due_command, is_reset_due, tried_event, due_publication, due_answer}
 use Rattle.rules.specs.Performed.{ends_turn}
 use Rattle.performed.specs.Served.{is_served}
 use Rattle.performed.proofs.ProgressSound.{lives_or_ended}
@@ -181,9 +182,37 @@ or_none : (a : Bool) → (a || false) ≡ true → a ≡ true
 or_none true h = refl
 or_none false h = h
 
-module _ (s : Script) (k before : Kept) (actor : ℕ) (b now : Begun) (op : Operation) (r : RunsAs s k before actor b now op) where
-  answers : due_answer s k ≡ answer_of_begun k actor (Some now) (Some op)
-  answers =
+module _ (s : Script) (k before : Kept) (actor : ℕ) (b now : Begun) where
+  answers : (op : Operation) → RunsAs s k before actor b now op → due_answer s k ≡ answer_of_begun k actor (Some now) (Some op)
+  answers op r =
       ap (λ (o : Option ℕ). answer_of_actor s k o) r.turn.actor_is
       ∙ ap (λ (o : Option Begun). answer_of_begun k actor o (operation_now s actor k.jobs)) r.begun
       ∙ ap (λ (o : Option Operation). answer_of_begun k actor (Some now) o) r.operation
+
+  -- a load, of each epoch and end
+  abbrev other : Option Answer
+  other = or_else (loaded k.turn.published) (outcome_answer k.turn)
+
+  load_alive : (f e : ℕ) → RunsAs s k before actor b now (operation.Load f) → now.epoch ≡ Some e → is_living before.history e ≡ true → ends_turn (due s k) ≡ false
+  load_alive f e r epoch lives =
+      let alive : lives_in before.history b.epoch ≡ true = ap (lives_in before.history) (sym r.epoch ∙ epoch) ∙ lives in
+      load_goes s k actor r.turn f
+      (r.work ∙ ap (λ (c : Bool). if c then reads_first before.files (family_paths f) else rests) alive ∙ ap (λ (fs : List CachedFile). reads_first fs (family_paths f)) (sym r.files))
+      (r.family ∙ ap (λ (c : Bool). if c then Some f else None) alive)
+
+  load_ended : (f e : ℕ) (d : Option ℕ) → RunsAs s k before actor b now (operation.Load f) → now.epoch ≡ Some e → now.ended ≡ d → ends_turn (due s k) ≡ false
+  load_ended f e (Some n) r epoch ended =
+      goes_by_answer s k (ap is_some (answers (operation.Load f) r) ∙ ap (λ (o : Option ℕ). is_some (with_card o now other)) epoch
+      ∙ ap (λ (o : Option ℕ). is_some (with_ended e o (is_lost now.ended now.editing.lost) other)) ended)
+  load_ended f e None r epoch ended =
+      load_alive f e r epoch (or_none (is_living before.history e) (sym (ap (λ (o : Option ℕ). lives_or_ended before.history o now.ended) epoch ∙ ap (λ (o : Option ℕ). lives_or_ended before.history (Some e) o) ended) ∙ r.lives))
+
+  load_of : (f : ℕ) (o : Option ℕ) → RunsAs s k before actor b now (operation.Load f) → now.epoch ≡ o → ends_turn (due s k) ≡ false
+  load_of f None r epoch = goes_by_answer s k (ap is_some (answers (operation.Load f) r) ∙ ap (λ (o : Option ℕ). is_some (with_card o now other)) epoch)
+  load_of f (Some e) r epoch = load_ended f e now.ended r epoch refl
+
+  pub operation_goes : (op : Operation) → is_served op ≡ true → RunsAs s k before actor b now op → ends_turn (due s k) ≡ false
+  operation_goes (operation.Insert card) served r = happens_goes s k actor r.turn (world_event.Insert card) r.work
+  operation_goes (operation.Load f) served r = load_of f now.epoch r refl
+  operation_goes operation.Look served r = goes_by_answer s k (ap is_some (answers operation.Look r))
+  operation_goes op served r = absurd (true≢false (sym served))
