@@ -25,6 +25,7 @@ use Rattle.families.specs.Families.{family_paths}
 use Rattle.link.specs.declared.chain.Chain.{Chain}
 use Rattle.link.specs.declared.chain.Final.{Final}
 use Rattle.link.specs.Commands.{follow_up, asks_more, chain_count, chain_after, final_after, is_at}
+use Rattle.epoch_cache.specs.Past.{is_insertion}
 use Rattle.epoch_cache.specs.declared.cached.CachedFile.{CachedFile}
 use Rattle.epoch_cache.specs.Cache.{first_missing, asks_reset, handed_refresh}
 use Rattle.loader.specs.Values.{ReadingValue}
@@ -51,13 +52,13 @@ use Rattle.rules.specs.Kept.{operations_of, operation_at, begun_of, begun_operat
 use Rattle.rules.specs.Standing.{first_stale}
 use Rattle.rules.specs.Work.{is_starting, read_stale, first_item, framework_work, reads_first, if_living, work_of_operation}
 use Rattle.rules.specs.After.{next_or_over, stage_of_sent, stage_of_framework, stage_of_read, stage_after, turn_exchanged, decision_of_begun, decision_at, fresh_begun, facts_of, kept_after, kept_of}
-use Rattle.rules.specs.Due.{first_command, first_of_turn, command_by_stage, command_by_chain, due_command, with_ended, with_card, loaded, answer_of_outcome, outcome_answer, answer_of, answer_of_begun, answer_of_actor, due_answer, is_lost, due}
-use Rattle.rules.specs.Rules.{is_turn_of, is_begun_at, same_answer, is_outside_raw, is_update_right, is_lost_update_right, world_failed, is_verify_right, has_right_edit, has_right_verify}
+use Rattle.rules.specs.Due.{first_command, first_of_turn, command_by_stage, command_by_chain, due_command, with_ended, with_card, loaded, answer_of_outcome, outcome_answer, answer_of, answer_of_begun, answer_of_actor, due_answer, is_lost, event_of, event_by_stage, due}
+use Rattle.rules.specs.Rules.{is_turn_of, is_begun_at, same_event, same_answer, is_outside_raw, is_update_right, is_lost_update_right, world_failed, is_verify_right, has_right_edit, has_right_verify}
 use Rattle.rules.specs.State.{world_of}
 use Rattle.rules.proofs.Performing.{due-exchange, due-failed}
 use Rattle.rules.proofs.Says.{says_of}
 use Rattle.performed.specs.Served.{is_served, serves}
-use Rattle.performed.specs.Followed.{is_given_or_refused, follows, is_followed, are_followed}
+use Rattle.performed.specs.Followed.{is_given_or_refused, is_tried, follows, is_followed, are_followed}
 use Rattle.performed.specs.Told.{are_told}
 
 -- ---- the operations
@@ -108,7 +109,7 @@ CalmWork rests = Unit {0}
 CalmWork (refuses r) = Unit {0}
 CalmWork (lacks key) = Unit {0}
 CalmWork resets = Unit {0}
-CalmWork (happens e) = Unit {0}
+CalmWork (happens e) = is_insertion e ≡ true
 
 abbrev CalmStage : Stage → Type 0
 CalmStage fresh = Unit {0}
@@ -225,6 +226,45 @@ exchange_calm s k a c r t h = same_calm c (due_command k) (due_calm k t) (and_pa
 pub failed_calm : (s : Script) (k : Kept) (a : ℕ) (c : CommandValue) (acted : Bool) → Sends k → is_followed s k (line.Failed a c acted) ≡ true → is_calm c.ins ≡ true
 failed_calm s k a c acted t h = same_calm c (due_command k) (due_calm k t) (and_parts (is_turn_of a k.turn) (has_value (same_command c) (due_command k)) (due-failed s k a c acted h)).1
 
+-- ---- events of the world
+
+abbrev Inserts : Option WorldEvent → Type 0
+Inserts None = Unit {0}
+Inserts (Some e) = is_insertion e ≡ true
+
+event_calm : (work : Work) → CalmWork work → Inserts (event_of work)
+event_calm (happens e) h = h
+event_calm (sends c) h = tt
+event_calm (reads path) h = tt
+event_calm writes h = tt
+event_calm rests h = tt
+event_calm (refuses r) h = tt
+event_calm (lacks key) h = tt
+event_calm resets h = tt
+
+tried_by : (work : Work) (stage : Stage) → CalmWork work → Inserts (event_by_stage work stage)
+tried_by work fresh h = event_calm work h
+tried_by work (next c) h = tt
+tried_by work resetting h = tt
+tried_by work over h = tt
+
+same_insertion : (e x : WorldEvent) → is_insertion x ≡ true → same_event e x ≡ true → is_insertion e ≡ true
+same_insertion (Insert j) x i h = refl
+same_insertion Out (Insert k) i h = absurd (true≢false (sym h))
+same_insertion Out Out i h = i
+same_insertion Out (Arm k) i h = i
+same_insertion (Arm j) (Insert k) i h = absurd (true≢false (sym h))
+same_insertion (Arm j) Out i h = i
+same_insertion (Arm j) (Arm k) i h = i
+
+tried_insertion : (s : Script) (k : Kept) (e : WorldEvent) (d : Due) → Sends k → due s k ≡ d → is_tried e d ≡ true → is_insertion e ≡ true
+tried_insertion s k e (try_event x) t due_is h = same_insertion e x (subst Inserts (says_of s k (try_event x) due_is) (tried_by k.turn.work k.turn.stage t.work)) h
+tried_insertion s k e d t due_is h = absurd (true≢false (sym h))
+
+-- an event that follows is an insertion
+pub world_insertion : (s : Script) (k : Kept) (a : ℕ) (e : WorldEvent) → Sends k → is_followed s k (line.World a e) ≡ true → is_insertion e ≡ true
+world_insertion s k a e t h = tried_insertion s k e (due s k) t refl (and_parts (is_turn_of a k.turn) (is_tried e (due s k)) h).1
+
 -- ---- what a turn decides
 
 reads_calm : (o : Option (List ℕ)) → CalmWork (elim o [ None ↦ rests | Some path ↦ reads path ])
@@ -243,7 +283,7 @@ work_elim true v w h g = h
 work_elim false v w h g = g
 
 operation_calm : (k : Kept) (actor : ℕ) (b : Begun) (op : Operation) → is_served op ≡ true → CalmWork (work_of_operation k actor b op).work
-operation_calm k actor b (operation.Insert card) h = tt
+operation_calm k actor b (operation.Insert card) h = refl
 operation_calm k actor b (operation.Load f) h = work_if (lives_in k.history b.epoch) _ _ (reads_first_calm k.files (family_paths f)) tt
 operation_calm k actor b operation.Look h = tt
 operation_calm k actor b op h = absurd (true≢false (sym h))
@@ -476,7 +516,7 @@ done_never s k a i n published left served h =
 
 -- ---- edits
 
-no_update : (ins : ℕ) → is_calm ins ≡ true → is_update_ins ins ≡ false
+pub no_update : (ins : ℕ) → is_calm ins ≡ true → is_update_ins ins ≡ false
 no_update ins h = not-true (is_update_ins ins) (and_parts (not (is_update_ins ins)) (not (ins == verify_ins) && not (ins == manage_channel_ins)) h).0
 
 pub no_verify : (ins : ℕ) → is_calm ins ≡ true → (ins == verify_ins) ≡ false

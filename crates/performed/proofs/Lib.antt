@@ -1,1 +1,4 @@
 mod CalmSends
+mod CalmArmed
+mod CalmCards
+mod CalmRest
