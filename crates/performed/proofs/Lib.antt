@@ -1,0 +1,5 @@
+mod Counts
+mod MeasureShape
+mod MeasureBegun
+mod MeasureNumbers
+mod Measure
