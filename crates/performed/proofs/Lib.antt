@@ -1,4 +1,5 @@
 mod Counts
+mod MeasureSays
 mod MeasureShape
 mod MeasureBegun
 mod MeasureNumbers

@@ -35,10 +35,10 @@ use Rattle.rules.specs.After.{jobs_beside, refused_of, refused_event, turn_answe
 use Rattle.rules.specs.Due.{due, due_command, command_by_chain, due_by_command, due_by_end, reset_by_stage, is_reset_due, event_by_stage, tried_event, published_by, due_publication}
 use Rattle.rules.specs.Rules.{is_turn_of, is_begun_at}
 use Rattle.rules.specs.Performed.{begins_as, is_reset, is_published, is_end_told, is_refusal_told}
-use Rattle.rules.proofs.Says.{says_of}
 use Rattle.performed.specs.Followed.{is_tried, is_followed, are_followed, is_given_or_refused}
 use Rattle.performed.specs.Measure.{calls_left, sent_of, one_if, is_begun, steps_left}
-use Rattle.performed.proofs.MeasureShape.{IsFirstOf, FitsChain, IsOver, IsToldOver, OpensNot, Shape, few_sent, IsNext, exchange_next, failed_next, calls_behind, falls, led, chain_now, final_now, shape}
+use Rattle.performed.proofs.MeasureShape.{IsFirstOf, FitsChain, IsOver, IsToldOver, OpensNot, Shape, few_sent, IsNext, exchange_next, failed_next, calls_behind, calls_alike, falls, led, chain_now, final_now, shape}
+use Rattle.performed.proofs.MeasureSays.{stands_of}
 use Rattle.performed.proofs.MeasureBegun.{begun_beside_line, begun_exchange, begun_failure, begun_answer, same_turn}
 use Rattle.performed.proofs.MeasureNumbers.{less_by_exchange, less_by_final, less_by_stop, less_by_end, less_by_refusal, less_by_begin, less_by_publication, less_by_answer}
 
@@ -84,7 +84,7 @@ call_less fresh c n f o h = let most = three_at_most (is_opening c) (c.ins == se
     three_at_most true j = omega arith
     three_at_most false true = omega arith
     three_at_most false false = omega arith
-call_less (next d) c n f o h = by_tests (is_opening d) (d.ins == select_ins) o (subst (λ (x : CommandValue). n ≤ calls_behind x) f h)
+call_less (next d) c n f o h = by_tests (is_opening d) (d.ins == select_ins) o (subst (λ (m : ℕ). n ≤ m) (calls_alike c d f) h)
   where
     by_tests : (i j : Bool) → i ≡ false → n ≤ (if i then 3 else if j then 2 else 1) → suc n ≤ (if j then 3 else 2)
     by_tests true j e g = absurd (true≢false e)
@@ -114,26 +114,26 @@ module _ (s : Script) (k : Kept) where
 
   -- what stands where a line is due
   reset_due : (d : Due) → due s k ≡ d → is_reset d ≡ true → is_reset_due k ≡ true
-  reset_due reset_card e h = says_of s k reset_card e
+  reset_due reset_card e h = stands_of s k reset_card e
   reset_due d e h = absurd (false≢true h)
 
   abbrev Tries : Type 0
   Tries = (x : WorldEvent) × (tried_event k ≡ Some x)
 
   event_due : (e : WorldEvent) (d : Due) → due s k ≡ d → is_tried e d ≡ true → Tries
-  event_due e (try_event x) q h = (x, says_of s k (try_event x) q)
+  event_due e (try_event x) q h = (x, stands_of s k (try_event x) q)
   event_due e d q h = absurd (false≢true h)
 
   end_due : (number e n : ℕ) (d : Due) → due s k ≡ d → is_end_told k number e n d ≡ true → is_some k.turn.ended ≡ true
-  end_due number e n (tell_end x m) q h = ap is_some (says_of s k (tell_end x m) q)
+  end_due number e n (tell_end x m) q h = ap is_some (stands_of s k (tell_end x m) q)
   end_due number e n d q h = absurd (false≢true h)
 
   refusal_due : (f n : ℕ) (d : Due) → due s k ≡ d → is_refusal_told f n d ≡ true → (is_some k.turn.refused ≡ true) × (is_told_or_sent d ≡ false)
-  refusal_due f n (tell_refusal g m) q h = (ap is_some (says_of s k (tell_refusal g m) q), refl)
+  refusal_due f n (tell_refusal g m) q h = (ap is_some (stands_of s k (tell_refusal g m) q), refl)
   refusal_due f n d q h = absurd (false≢true h)
 
   begin_due : (i : ℕ) (d : Due) → due s k ≡ d → begins_as i d ≡ true → (k.turn.bare ≡ true) × (is_told_or_sent d ≡ false)
-  begin_due i (begin j) q h = ((says_of s k (begin j) q).1.bare, refl)
+  begin_due i (begin j) q h = ((stands_of s k (begin j) q), refl)
   begin_due i d q h = absurd (false≢true h)
 
   unpublished_by : (f : Option ℕ) (g : ℕ) → option_and_then (published_by k) f ≡ Some g → is_none k.turn.published ≡ true
@@ -141,7 +141,7 @@ module _ (s : Script) (k : Kept) where
   unpublished_by (Some f) g h = (and_parts (is_none k.turn.published) (all_current k.files (family_paths f)) (cond_some (is_none k.turn.published && all_current k.files (family_paths f)) f g h).0).0
 
   publication_due : (number f e n : ℕ) (text : List ℕ) (d : Due) → due s k ≡ d → is_published k number f e n text d ≡ true → is_none k.turn.published ≡ true
-  publication_due number f e n text (publish g) q h = unpublished_by k.turn.family g (says_of s k (publish g) q)
+  publication_due number f e n text (publish g) q h = unpublished_by k.turn.family g (stands_of s k (publish g) q)
   publication_due number f e n text d q h = absurd (false≢true h)
 
 -- ---- each kind of line

@@ -1,6 +1,5 @@
 -- Which actors have an operation under way, behind a line.
-use Rattle.std.proofs.Common.{◌≡◌, ℕ, ◌==◌, Bool, true, false, if◌then◌else◌, List, Option, Some, None, is_some, unwrap_or, option_map, slice_get, refl, sym, ap, ◌∙◌, arith}
-use Rattle.std.proofs.lemmas.Bool.{false≢true}
+use Rattle.std.proofs.Common.{◌≡◌, ℕ, zero, suc, Bool, true, false, List, [], ◌∷◌, Option, Some, None, is_some, unwrap_or, option_map, slice_get, slice_set, refl, ap, ◌∙◌}
 use Rattle.std.proofs.lemmas.Option.{slice_get-map}
 use Rattle.apdu.specs.Values.{CommandValue, ResponseValue}
 use Rattle.script_reader.specs.declared.types.Script.{Script}
@@ -9,9 +8,8 @@ use Rattle.report.specs.declared.line.Line.{Line}
 use Rattle.report.specs.declared.line.Line.TheVariants as line
 use Rattle.rules.specs.declared.kept.Job.{Job}
 use Rattle.rules.specs.declared.kept.Kept.{Kept}
-use Rattle.rules.specs.Kept.{first_job, begun_of, change_at, operation_at, operation_now}
+use Rattle.rules.specs.Kept.{first_job, begun_of, changed_at, change_at, operation_at, operation_now}
 use Rattle.rules.specs.After.{begun_beside, job_beside, jobs_beside, begun_exchanged, begun_failed, job_answered, own_job, edit_of, decision_at, facts_of, kept_after}
-use Rattle.rules.proofs.Attempts.{change}
 use Rattle.performed.specs.Measure.{is_begun}
 
 abbrev has_begun : Option Job → Bool
@@ -21,17 +19,30 @@ some_map : {A B : Type 0} (g : A → B) (o : Option A) → is_some (option_map g
 some_map g None = refl
 some_map g (Some x) = refl
 
-module _ (f : Job → Job) (keeps : (job : Job) → is_some (f job).begun ≡ is_some job.begun) where
-  begun_map : (o : Option Job) → has_begun (option_map f o) ≡ has_begun o
-  begun_map None = refl
-  begun_map (Some job) = keeps job
+begun_map : (f : Job → Job) → ((job : Job) → is_some (f job).begun ≡ is_some job.begun) → (o : Option Job) → has_begun (option_map f o) ≡ has_begun o
+begun_map f keeps None = refl
+begun_map f keeps (Some job) = keeps job
 
-  begun_if : (b : Bool) (o : Option Job) → has_begun (if b then option_map f o else o) ≡ has_begun o
-  begun_if true o = begun_map o
-  begun_if false o = refl
+-- a job is written over
+set_same : (jobs : List Job) (a i : ℕ) (x y : Job) → slice_get jobs a ≡ Some x → is_some y.begun ≡ is_some x.begun → is_some (begun_of i (slice_set jobs a y)) ≡ is_some (begun_of i jobs)
+set_same [] a i x y h e = absurd (cc)
+set_same (z ∷ zs) zero zero x y h e = let same : x ≡ z = cc in e ∙ ap (λ (job : Job). is_some job.begun) same
+set_same (z ∷ zs) zero (suc i) x y h e = refl
+set_same (z ∷ zs) (suc a) zero x y h e = refl
+set_same (z ∷ zs) (suc a) (suc i) x y h e = set_same zs a i x y h e
 
-  begun_changed : (jobs : List Job) (a i : ℕ) → is_some (begun_of i (change_at a f jobs)) ≡ is_some (begun_of i jobs)
-  begun_changed jobs a i = ap has_begun (change f jobs a i) ∙ begun_if (a == i) (slice_get jobs i)
+set_there : (jobs : List Job) (a : ℕ) (x y : Job) → slice_get jobs a ≡ Some x → is_some (begun_of a (slice_set jobs a y)) ≡ is_some y.begun
+set_there [] a x y h = absurd (cc)
+set_there (z ∷ zs) zero x y h = refl
+set_there (z ∷ zs) (suc a) x y h = set_there zs a x y h
+
+changed_same : (f : Job → Job) → ((job : Job) → is_some (f job).begun ≡ is_some job.begun) → (jobs : List Job) (a i : ℕ) (o : Option Job) → slice_get jobs a ≡ o → is_some (begun_of i (changed_at a f jobs o)) ≡ is_some (begun_of i jobs)
+changed_same f keeps jobs a i None h = refl
+changed_same f keeps jobs a i (Some x) h = set_same jobs a i x (f x) h (keeps x)
+
+changed_ended : (f : Job → Job) → ((job : Job) → is_some (f job).begun ≡ false) → (jobs : List Job) (a : ℕ) (o : Option Job) → slice_get jobs a ≡ o → is_some (begun_of a (changed_at a f jobs o)) ≡ false
+changed_ended f ends jobs a None h = ap has_begun h
+changed_ended f ends jobs a (Some x) h = set_there jobs a x (f x) h ∙ ends x
 
 module _ (s : Script) (l : Line) (k : Kept) where
   abbrev beside : List Job
@@ -43,7 +54,7 @@ module _ (s : Script) (l : Line) (k : Kept) where
       ∙ begun_map (job_beside l k.history.epoch (facts_of s l k) k.selected) (λ job. some_map (begun_beside l k.history.epoch (facts_of s l k)) job.begun) (slice_get k.jobs i)
 
   begun_own : ((job : Job) → is_some (own_job s l k (facts_of s l k) (decision_at s l k).attempt job).begun ≡ is_some job.begun) → (a i : ℕ) → is_some (begun_of i (change_at a (own_job s l k (facts_of s l k) (decision_at s l k).attempt) beside)) ≡ is_some (begun_of i k.jobs)
-  begun_own keeps a i = begun_changed (own_job s l k (facts_of s l k) (decision_at s l k).attempt) keeps beside a i ∙ begun_beside_line i
+  begun_own keeps a i = changed_same (own_job s l k (facts_of s l k) (decision_at s l k).attempt) keeps beside a i (slice_get beside a) refl ∙ begun_beside_line i
 
 module _ (s : Script) (k : Kept) (a : ℕ) where
   pub begun_exchange : (c : CommandValue) (r : ResponseValue) (i : ℕ) → is_some (begun_of i (kept_after s (line.Exchange a c r) k).jobs) ≡ is_some (begun_of i k.jobs)
@@ -53,23 +64,10 @@ module _ (s : Script) (k : Kept) (a : ℕ) where
   begun_failure c d i = begun_own s (line.Failed a c d) k (λ job. some_map (begun_failed (edit_of (operation_now s a k.jobs)) k.selected k.chain (facts_of s (line.Failed a c d) k).event c) job.begun) a i
 
 -- the actor's operation is answered
-same_number_self : (a : ℕ) → (a == a) ≡ true
-same_number_self a = grind arith
-
-module _ (f : Job → Job) (ends : (job : Job) → is_some (f job).begun ≡ false) where
-  ended_map : (o : Option Job) → has_begun (option_map f o) ≡ false
-  ended_map None = refl
-  ended_map (Some job) = ends job
-
-  ended_if : (b : Bool) (o : Option Job) → b ≡ true → has_begun (if b then option_map f o else o) ≡ false
-  ended_if true o h = ended_map o
-  ended_if false o h = absurd (false≢true h)
-
-  ended_changed : (jobs : List Job) (a : ℕ) → is_some (begun_of a (change_at a f jobs)) ≡ false
-  ended_changed jobs a = ap has_begun (change f jobs a a) ∙ ended_if (a == a) (slice_get jobs a) (same_number_self a)
-
 pub begun_answer : (s : Script) (k : Kept) (a i : ℕ) (given : Answer) → is_some (begun_of a (kept_after s (line.Answered a i given) k).jobs) ≡ false
-begun_answer s k a i given = ended_changed (job_answered (operation_at s a i) given k.publications) (λ job. refl) (beside s (line.Answered a i given) k) a
+begun_answer s k a i given =
+    let jobs : List Job = beside s (line.Answered a i given) k in
+    changed_ended (job_answered (operation_at s a i) given k.publications) (λ job. refl) jobs a (slice_get jobs a) refl
 
 -- ---- of the turn's actor
 

@@ -1,9 +1,15 @@
 -- What stands in a turn whose each line is due: a chain goes on with the command of its stage, an ended epoch is told in a turn that is over,
 -- and a command behind another opens no channel.
-use Rattle.std.proofs.Common.{◌≡◌, ℕ, suc, ◌+◌, ◌*◌, ◌-◌, ◌≤◌, ◌<◌, ◌==◌, ◌&&◌, ◌||◌, not, nat_lt, Bool, true, false, if◌then◌else◌, List, [], ◌∷◌, Option, Some, None, option_map, option_and_then, refl, sym, ap, ◌∙◌, subst, arith, true≢false}
-use Rattle.std.proofs.lemmas.Bool.{and_parts, cond_both, false≢true, ltb-true}
+use Rattle.std.proofs.Common.{◌≡◌, ℕ, suc, ◌+◌, ◌*◌, ◌-◌, ◌≤◌, ◌<◌, ◌==◌, ◌&&◌, ◌||◌, not, nat_lt, Bool, true, false, if◌then◌else◌, List, [], ◌∷◌, Option, Some, None, option_map, option_and_then, refl, length, sym, ap, ◌∙◌, subst, arith}
+use Rattle.std.proofs.lemmas.Bool.{and_parts, false≢true, ltb-true, eqb-true}
 use Rattle.apdu.specs.Values.{CommandValue, ResponseValue}
-use Rattle.apdu.specs.Apdu.{same_command, select_ins, verify_ins, is_success, wants_more}
+use Rattle.apdu.specs.Words.{has_value, same_bytes, same_number}
+use Rattle.apdu.specs.Apdu.{same_command, manage_channel_ins, select_ins, verify_ins, is_success, wants_more}
+use Rattle.fcp.specs.declared.control.Fcp.{Fcp}
+use Rattle.fcp.specs.declared.rows.FileKind.{FileKind}
+use Rattle.fcp.specs.declared.rows.FileKind.TheVariants.{Transparent, Linear, Directory}
+use Rattle.adn.specs.declared.edit.RowUpdate.{RowUpdate}
+use Rattle.epoch_cache.specs.Cache.{asks_reset}
 use Rattle.refresh_cmd.specs.Values.{ProactiveValue}
 use Rattle.script_reader.specs.declared.types.Script.{Script}
 use Rattle.script_reader.specs.declared.types.Operation.{Operation}
@@ -12,13 +18,12 @@ use Rattle.report.specs.declared.line.Line.{Line}
 use Rattle.report.specs.declared.line.Line.TheVariants as line
 use Rattle.link.specs.declared.chain.Chain.{Chain}
 use Rattle.link.specs.declared.chain.Final.{Final}
-use Rattle.link.specs.Commands.{asks_more, chain_count, chain_first, count_of, first_of, follow_up, most_exchanges}
+use Rattle.link.specs.Commands.{asks_more, chain_count, chain_first, count_of, first_of, follow_up, most_exchanges, is_path_select, is_basic_select}
 use Rattle.channels.specs.Channels.{is_opening, select_application, close_command}
 use Rattle.loader.specs.Values.{ReadingValue}
 use Rattle.loader.specs.Load.{is_selected, read_behind}
-use Rattle.loader.specs.Reading.{next_read, reading_of, is_complete, read_number}
+use Rattle.loader.specs.Reading.{next_read, reading_of, is_complete, read_by, read_number}
 use Rattle.editor.specs.Editing.{next_update, update_command}
-use Rattle.editor.specs.declared.editing.Attempt.{Attempt}
 use Rattle.rules.specs.declared.kept.Facts.{Facts}
 use Rattle.rules.specs.declared.kept.Job.{Job}
 use Rattle.rules.specs.declared.kept.Kept.{Kept}
@@ -29,22 +34,27 @@ use Rattle.rules.specs.declared.kept.Work.{Work}
 use Rattle.rules.specs.declared.kept.Work.TheVariants.{Sends as sends, Reads as reads, Writes as writes}
 use Rattle.rules.specs.declared.due.Due.{Due}
 use Rattle.rules.specs.declared.due.Due.TheVariants.{Send as send}
-use Rattle.rules.specs.declared.kept.Outcome.{Outcome}
 use Rattle.loader.specs.declared.reading.RefusedReading.{RefusedReading}
 use Rattle.rules.specs.Due.{due, due_command, command_by_chain, command_by_stage}
 use Rattle.rules.specs.Editing.{attempt_of}
-use Rattle.rules.specs.After.{next_or_over, stage_of_open, stage_of_framework, stage_of_sent, stage_of_read, stage_of_write, stage_after, turn_answered, opened_behind}
+use Rattle.rules.specs.After.{next_or_over, stage_of_open, stage_of_framework, stage_of_sent, stage_of_read, stage_of_write, stage_after, turn_answered, opened_behind, jobs_beside, refused_of, facts_of, kept_after, kept_of}
 use Rattle.rules.specs.Performed.{is_sent}
-use Rattle.rules.proofs.Chains.{same_command_is}
-use Rattle.rules.proofs.Says.{says_of}
+use Rattle.rules.specs.Rules.{is_turn_of}
+use Rattle.rules.specs.Channels.{held_numbers}
+use Rattle.rules.specs.Kept.{job_of, operation_now}
+use Rattle.performed.specs.Followed.{is_followed, are_followed}
 use Rattle.performed.specs.Measure.{calls_left, sent_of}
+use Rattle.performed.proofs.MeasureSays.{stands_of}
 
 -- ---- the shape
+
+abbrev pub IsLike : CommandValue → CommandValue → Type 0
+IsLike c d = (c.ins ≡ d.ins) × (c.p1 ≡ d.p1)
 
 -- a command of this first form is that of the stage
 abbrev pub IsFirstOf : CommandValue → Stage → Type 0
 IsFirstOf c fresh = Unit {0}
-IsFirstOf c (next d) = c ≡ d
+IsFirstOf c (next d) = IsLike c d
 IsFirstOf c resetting = ⊥
 IsFirstOf c over = ⊥
 
@@ -87,10 +97,18 @@ pub record IsNext (c : CommandValue) (chain : Option Chain) (stage : Stage) : Ty
   pub first : IsFirstOf (chain_first c chain) stage
   pub count : chain_count c chain ≡ sent_of chain
 
+same_is_like : (a b : CommandValue) → same_command a b ≡ true → IsLike a b
+same_is_like a b h =
+    let q1 = and_parts ((a.class == b.class) && (a.ins == b.ins) && (a.p1 == b.p1) && (a.p2 == b.p2) && same_bytes a.body b.body) (same_number a.le b.le) h in
+    let q2 = and_parts ((a.class == b.class) && (a.ins == b.ins) && (a.p1 == b.p1) && (a.p2 == b.p2)) (same_bytes a.body b.body) q1.0 in
+    let q3 = and_parts ((a.class == b.class) && (a.ins == b.ins) && (a.p1 == b.p1)) (a.p2 == b.p2) q2.0 in
+    let q4 = and_parts ((a.class == b.class) && (a.ins == b.ins)) (a.p1 == b.p1) q3.0 in
+    (eqb-true a.ins b.ins (and_parts (a.class == b.class) (a.ins == b.ins) q4.0).1, eqb-true a.p1 b.p1 q4.1)
+
 module _ (k : Kept) where
-  by_stage : (stage : Stage) (c d : CommandValue) → command_by_stage k stage ≡ Some d → c ≡ d → IsFirstOf c stage
+  by_stage : (stage : Stage) (c d : CommandValue) → command_by_stage k stage ≡ Some d → IsLike c d → IsFirstOf c stage
   by_stage fresh c d e h = tt
-  by_stage (next x) c d e h = cc
+  by_stage (next x) c d e h = let same : d ≡ x = cc in subst (λ (y : CommandValue). IsLike c y) same h
   by_stage resetting c d e h = absurd (cc)
   by_stage over c d e h = absurd (cc)
 
@@ -99,19 +117,19 @@ module _ (k : Kept) where
   going_on false c chain h f = absurd (false≢true h)
 
   by_chain : (o : Option Chain) (c d : CommandValue) → FitsChain o k.turn.stage → command_by_chain k o ≡ Some d → same_command c d ≡ true → IsNext c o k.turn.stage
-  by_chain None c d f e h = record { first = by_stage k.turn.stage c d e (same_command_is c d h); count = refl }
+  by_chain None c d f e h = record { first = by_stage k.turn.stage c d e (same_is_like c d h); count = refl }
   by_chain (Some chain) c d f e h =
       let same : chain.next ≡ d = cc in
-      let q = going_on (same_command c chain.next) c chain (ap (same_command c) same ∙ h) f.1 in
+      let q = going_on (same_command c chain.next) c chain (subst (λ (y : CommandValue). same_command c y ≡ true) (sym same) h) f.1 in
       record { first = q.0; count = q.1 }
 
 module _ (s : Script) (k : Kept) (f : FitsChain k.chain k.turn.stage) where
   by_exchange : (d : Due) (a : ℕ) (c : CommandValue) (r : ResponseValue) → due s k ≡ d → is_sent d (line.Exchange a c r) ≡ true → IsNext c k.chain k.turn.stage
-  by_exchange (send x) a c r e h = by_chain k k.chain c x f (says_of s k (send x) e) h
+  by_exchange (send x) a c r e h = by_chain k k.chain c x f (stands_of s k (send x) e) h
   by_exchange d a c r e h = absurd (false≢true h)
 
   by_failed : (d : Due) (a : ℕ) (c : CommandValue) (acted : Bool) → due s k ≡ d → is_sent d (line.Failed a c acted) ≡ true → IsNext c k.chain k.turn.stage
-  by_failed (send x) a c acted e h = by_chain k k.chain c x f (says_of s k (send x) e) h
+  by_failed (send x) a c acted e h = by_chain k k.chain c x f (stands_of s k (send x) e) h
   by_failed d a c acted e h = absurd (false≢true h)
 
   pub exchange_next : (a : ℕ) (c : CommandValue) (r : ResponseValue) → is_followed s k (line.Exchange a c r) ≡ true → IsNext c k.chain k.turn.stage
@@ -132,6 +150,11 @@ not_ended (Some x) over c e f = absurd f
 -- how much may come behind a command
 abbrev pub calls_behind : CommandValue → ℕ
 calls_behind c = if is_opening c then 3 else if c.ins == select_ins then 2 else 1
+
+pub calls_alike : (c d : CommandValue) → IsLike c d → calls_behind c ≡ calls_behind d
+calls_alike c d h =
+    let by : ℕ → ℕ → ℕ = λ ins p1. if (ins == manage_channel_ins) && (p1 == 0x00) then 3 else if ins == select_ins then 2 else 1 in
+    ap (λ i. by i c.p1) h.0 ∙ ap (λ p. by d.ins p) h.1
 
 -- what is shown of the stage behind the command
 pub record Falls (c : CommandValue) (stage : Stage) : Type 0 where

@@ -4,4 +4,4 @@
 
 mod endings;
 
-pub use endings::counters_are_at_most_lines;
+pub use endings::{counters_are_at_most_lines, turns_end};
