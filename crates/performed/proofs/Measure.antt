@@ -1,9 +1,9 @@
 -- Each line that is due within a turn leaves fewer steps in it.
-use Rattle.std.proofs.Common.{◌≡◌, ℕ, suc, ◌+◌, ◌*◌, ◌-◌, ◌≤◌, ◌<◌, ◌==◌, ◌&&◌, nat_lt, Bool, true, false, if◌then◌else◌, List, [], ◌∷◌, Option, Some, None, is_some, is_none, option_and_then, refl, sym, ap, ◌∙◌, subst, arith, true≢false}
+use Rattle.std.proofs.Common.{◌≡◌, ℕ, suc, ◌+◌, ◌*◌, ◌-◌, ◌≤◌, ◌<◌, ◌==◌, ◌&&◌, nat_lt, Bool, true, false, if◌then◌else◌, List, ◌∷◌, Option, Some, None, is_some, is_none, option_and_then, refl, sym, ap, ◌∙◌, subst, arith, true≢false}
 use Rattle.std.proofs.lemmas.Bool.{and_parts, false≢true, lt-ltb, eqb-true}
 use Rattle.std.proofs.lemmas.Option.{cond_some}
 use Rattle.apdu.specs.Values.{CommandValue, ResponseValue}
-use Rattle.apdu.specs.Words.{same_number, has_value}
+use Rattle.apdu.specs.Words.{same_number}
 use Rattle.apdu.specs.Apdu.{select_ins}
 use Rattle.refresh_cmd.specs.Values.{ProactiveValue}
 use Rattle.card_model.specs.declared.world.WorldEvent.{WorldEvent}
@@ -20,7 +20,7 @@ use Rattle.channels.specs.Channels.{is_opening}
 use Rattle.epoch_cache.specs.Cache.{all_current}
 use Rattle.loader.specs.declared.reading.RefusedReading.{RefusedReading}
 use Rattle.rules.specs.declared.due.Due.{Due}
-use Rattle.rules.specs.declared.due.Due.TheVariants.{TellEnd as tell_end, Send as send, ResetCard as reset_card, TryEvent as try_event, TellRefusal as tell_refusal, Publish as publish, Give as give, Begin as begin}
+use Rattle.rules.specs.declared.due.Due.TheVariants.{TellEnd as tell_end, Send as send, ResetCard as reset_card, TryEvent as try_event, TellRefusal as tell_refusal, Publish as publish, Begin as begin}
 use Rattle.rules.specs.declared.kept.Begun.{Begun}
 use Rattle.rules.specs.declared.kept.Facts.{Facts}
 use Rattle.rules.specs.declared.kept.Job.{Job}
@@ -31,13 +31,13 @@ use Rattle.rules.specs.declared.kept.Turn.{Turn}
 use Rattle.rules.specs.declared.kept.Work.{Work}
 use Rattle.rules.specs.Channels.{held_numbers}
 use Rattle.rules.specs.Kept.{job_of, begun_of, operation_now}
-use Rattle.rules.specs.After.{jobs_beside, refused_of, refused_event, turn_answered, opened_behind, is_mark, facts_of, kept_after, kept_of}
-use Rattle.rules.specs.Due.{due, due_command, command_by_chain, due_by_command, due_by_end, reset_by_stage, is_reset_due, event_by_stage, tried_event, published_by, due_publication}
+use Rattle.rules.specs.After.{jobs_beside, refused_of, refused_event, opened_behind, is_mark, facts_of, kept_after, kept_of}
+use Rattle.rules.specs.Due.{due, command_by_chain, due_by_command, due_by_end, reset_by_stage, is_reset_due, event_by_stage, tried_event, published_by}
 use Rattle.rules.specs.Rules.{is_turn_of, is_begun_at}
 use Rattle.rules.specs.Performed.{begins_as, is_reset, is_published, is_end_told, is_refusal_told}
 use Rattle.performed.specs.Followed.{is_tried, is_followed, are_followed, is_given_or_refused}
 use Rattle.performed.specs.Measure.{calls_left, sent_of, one_if, is_begun, steps_left}
-use Rattle.performed.proofs.MeasureShape.{IsFirstOf, FitsChain, IsOver, IsToldOver, OpensNot, Shape, few_sent, IsNext, exchange_next, failed_next, calls_behind, calls_alike, falls, led, chain_now, final_now, shape}
+use Rattle.performed.proofs.MeasureShape.{IsFirstOf, IsOver, IsToldOver, OpensNot, Shape, few_sent, IsNext, exchange_next, failed_next, calls_behind, calls_alike, falls, led, chain_now, final_now, shape}
 use Rattle.performed.proofs.MeasureSays.{stands_of}
 use Rattle.performed.proofs.MeasureBegun.{begun_beside_line, begun_exchange, begun_failure, begun_answer, same_turn}
 use Rattle.performed.proofs.MeasureNumbers.{less_by_exchange, less_by_final, less_by_stop, less_by_end, less_by_refusal, less_by_begin, less_by_publication, less_by_answer}
@@ -166,10 +166,10 @@ module _ (op : Option Operation) (job : Job) (held : List ℕ) (refresh : Option
   less_led true x f first opens few count same =
       subst (λ (n : ℕ). 4 * (5 * calls_left t.stage - n) + (2 * 0 + one_if (is_some t.ended) + one_if (is_some t.refused) + one_if (is_none t.published) + one_if (is_begun t.actor new)) < left_of chain t jobs) (sym count)
       (less_by_exchange (calls_left t.stage) (sent_of chain) (one_if t.bare) (one_if (is_some t.ended)) (one_if (is_some t.refused)) (one_if (is_none t.published)) (one_if (is_begun t.actor jobs)) (one_if (is_begun t.actor new))
-          (sends_call f.command t.stage first) few (ap one_if same))
+      (sends_call f.command t.stage first) few (ap one_if same))
   less_led false x f first opens few count same =
       less_by_final (calls_left (behind (Some f)).stage) (calls_left t.stage) (sent_of chain) (one_if t.bare) (one_if (is_some t.ended)) (one_if (is_some t.refused)) (one_if (is_some (refused_event t f refused))) (one_if (is_none t.published)) (one_if (is_begun t.actor jobs)) (one_if (is_begun t.actor new))
-          (call_less t.stage f.command (calls_left (behind (Some f)).stage) first opens (falls t.work op (opened_behind held f t.opened) job refresh f).calls) few (one_at_most (is_some (refused_event t f refused))) (ap one_if same)
+      (call_less t.stage f.command (calls_left (behind (Some f)).stage) first opens (falls t.work op (opened_behind held f t.opened) job refresh f).calls) few (one_at_most (is_some (refused_event t f refused))) (ap one_if same)
 
 module _ (s : Script) (k : Kept) (p : Shape k) where
   abbrev calls : ℕ
@@ -209,8 +209,8 @@ module _ (s : Script) (k : Kept) (p : Shape k) where
       let facts : Facts = facts_of s l k in
       let n : IsNext c k.chain k.turn.stage = exchange_next s k p.chain a c r h in
       less_led (operation_now s a k.jobs) (job_of a (jobs_behind l)) (held_numbers k.history k.handles) facts.touch.refresh (refused_of k.selected (jobs_beside l k.history.epoch facts k.selected k.jobs) facts.answered) k.turn k.chain k.jobs (jobs_behind l)
-          (asks_more (chain_count c k.chain + 1) c r) (chain_now c r k.chain) (final_now a c r k.history.events k.chain)
-          n.first p.opens few (ap (λ (m : ℕ). m + 1) n.count) (same_turn k.jobs (jobs_behind l) (begun_exchange s k a c r) k.turn.actor)
+      (asks_more (chain_count c k.chain + 1) c r) (chain_now c r k.chain) (final_now a c r k.history.events k.chain)
+      n.first p.opens few (ap (λ (m : ℕ). m + 1) n.count) (same_turn k.jobs (jobs_behind l) (begun_exchange s k a c r) k.turn.actor)
 
   -- a turn that goes no further behind an event
   less_stopped : (o : Option (ℕ × ℕ)) (jobs : List Job) → 1 ≤ calls → begun_in jobs ≡ begun_in k.jobs → 4 * (5 * 0 - 0) + (2 * 0 + one_if (is_some o) + refused + unpublished + begun_in jobs) < steps_left k
@@ -265,8 +265,8 @@ module _ (s : Script) (k : Kept) (p : Shape k) where
       let some : is_some (begun_of a k.jobs) ≡ true = has_operation i (begun_of a k.jobs) (and_parts (is_begun_at i (begun_of a k.jobs)) (is_given_or_refused given (due s k)) q.1).0 in
       let turn : k.turn.actor ≡ Some a = of_turn k.turn.actor a q.0 in
       less_by_answer calls sent bare ended refused unpublished (begun_in k.jobs) (begun_in (jobs_behind l))
-          (ap (λ (o : Option ℕ). one_if (is_begun o k.jobs)) turn ∙ ap one_if some)
-          (ap (λ (o : Option ℕ). one_if (is_begun o (jobs_behind l))) turn ∙ ap one_if (begun_answer s k a i given))
+      (ap (λ (o : Option ℕ). one_if (is_begun o k.jobs)) turn ∙ ap one_if some)
+      (ap (λ (o : Option ℕ). one_if (is_begun o (jobs_behind l))) turn ∙ ap one_if (begun_answer s k a i given))
 
   pub less : (l : Line) → is_followed s k l ≡ true → is_mark l ≡ false → steps_left (kept_after s l k) < steps_left k
   less (line.Turn a) h m = absurd (true≢false m)

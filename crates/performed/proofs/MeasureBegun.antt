@@ -1,5 +1,5 @@
 -- Which actors have an operation under way, behind a line.
-use Rattle.std.proofs.Common.{◌≡◌, ℕ, zero, suc, Bool, true, false, List, [], ◌∷◌, Option, Some, None, is_some, unwrap_or, option_map, slice_get, slice_set, refl, ap, ◌∙◌}
+use Rattle.std.proofs.Common.{◌≡◌, ℕ, zero, suc, Bool, false, List, [], ◌∷◌, Option, Some, None, is_some, unwrap_or, option_map, slice_get, slice_set, refl, ap, ◌∙◌}
 use Rattle.std.proofs.lemmas.Option.{slice_get-map}
 use Rattle.apdu.specs.Values.{CommandValue, ResponseValue}
 use Rattle.script_reader.specs.declared.types.Script.{Script}

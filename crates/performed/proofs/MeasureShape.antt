@@ -1,6 +1,6 @@
 -- What stands in a turn whose each line is due: a chain goes on with the command of its stage, an ended epoch is told in a turn that is over,
 -- and a command behind another opens no channel.
-use Rattle.std.proofs.Common.{◌≡◌, ℕ, suc, ◌+◌, ◌*◌, ◌-◌, ◌≤◌, ◌<◌, ◌==◌, ◌&&◌, ◌||◌, not, nat_lt, Bool, true, false, if◌then◌else◌, List, [], ◌∷◌, Option, Some, None, option_map, option_and_then, refl, length, sym, ap, ◌∙◌, subst, arith}
+use Rattle.std.proofs.Common.{◌≡◌, ℕ, ◌+◌, ◌-◌, ◌≤◌, ◌<◌, ◌==◌, ◌&&◌, not, nat_lt, Bool, true, false, if◌then◌else◌, List, [], ◌∷◌, Option, Some, None, option_map, option_and_then, refl, length, sym, ap, ◌∙◌, subst, arith}
 use Rattle.std.proofs.lemmas.Bool.{and_parts, false≢true, ltb-true, eqb-true}
 use Rattle.apdu.specs.Values.{CommandValue, ResponseValue}
 use Rattle.apdu.specs.Words.{has_value, same_bytes, same_number}
@@ -21,7 +21,7 @@ use Rattle.link.specs.declared.chain.Final.{Final}
 use Rattle.link.specs.Commands.{asks_more, chain_count, chain_first, count_of, first_of, follow_up, most_exchanges, is_path_select, is_basic_select}
 use Rattle.channels.specs.Channels.{is_opening, select_application, close_command}
 use Rattle.loader.specs.Values.{ReadingValue}
-use Rattle.loader.specs.Load.{is_selected, read_behind}
+use Rattle.loader.specs.Load.{is_selected}
 use Rattle.loader.specs.Reading.{next_read, reading_of, is_complete, read_by, read_number}
 use Rattle.editor.specs.Editing.{next_update, update_command}
 use Rattle.rules.specs.declared.kept.Facts.{Facts}
@@ -35,9 +35,9 @@ use Rattle.rules.specs.declared.kept.Work.TheVariants.{Sends as sends, Reads as 
 use Rattle.rules.specs.declared.due.Due.{Due}
 use Rattle.rules.specs.declared.due.Due.TheVariants.{Send as send}
 use Rattle.loader.specs.declared.reading.RefusedReading.{RefusedReading}
-use Rattle.rules.specs.Due.{due, due_command, command_by_chain, command_by_stage}
+use Rattle.rules.specs.Due.{due, command_by_chain, command_by_stage}
 use Rattle.rules.specs.Editing.{attempt_of}
-use Rattle.rules.specs.After.{next_or_over, stage_of_open, stage_of_framework, stage_of_sent, stage_of_read, stage_of_write, stage_after, turn_answered, opened_behind, jobs_beside, refused_of, facts_of, kept_after, kept_of}
+use Rattle.rules.specs.After.{next_or_over, stage_of_open, stage_of_framework, stage_of_sent, stage_after, turn_answered, opened_behind, jobs_beside, refused_of, facts_of, kept_after, kept_of}
 use Rattle.rules.specs.Performed.{is_sent}
 use Rattle.rules.specs.Rules.{is_turn_of}
 use Rattle.rules.specs.Channels.{held_numbers}
@@ -288,8 +288,8 @@ module _ (s : Script) (k : Kept) (p : Shape k) where
       let facts : Facts = facts_of s l k in
       let n : IsNext c k.chain k.turn.stage = exchange_next s k p.chain a c r h in
       let q = shape_led (operation_now s a k.jobs) (job_of a (kept_after s l k).jobs) (held_numbers k.history k.handles) facts.touch.refresh (refused_of k.selected (jobs_beside l k.history.epoch facts k.selected k.jobs) facts.answered) k.turn
-          (asks_more (chain_count c k.chain + 1) c r) (chain_now c r k.chain) (final_now a c r k.history.events k.chain)
-          (λ more. (has_room (chain_count c k.chain + 1) c r more, n.first)) (not_ended k.turn.ended k.turn.stage (chain_first c k.chain) p.ended n.first) p.opens in
+      (asks_more (chain_count c k.chain + 1) c r) (chain_now c r k.chain) (final_now a c r k.history.events k.chain)
+      (λ more. (has_room (chain_count c k.chain + 1) c r more, n.first)) (not_ended k.turn.ended k.turn.stage (chain_first c k.chain) p.ended n.first) p.opens in
       record { chain = q.0; ended = q.1; opens = q.2 }
 
   shape_after : (l : Line) → is_followed s k l ≡ true → Shape (kept_after s l k)
