@@ -1,7 +1,8 @@
 -- A card on which nothing is armed has nothing armed behind a command, one lemma for each row of the card's table.
-use Rattle.std.proofs.Common.{◌≡◌, ℕ, ◌==◌, ◌||◌, Bool, true, false, if◌then◌else◌, Option, Some, None, List, [], ◌∷◌, refl, ap, ◌∙◌}
-use Rattle.std.specs.Prelude.{slice_get, drop}
+use Rattle.std.proofs.Common.{◌≡◌, ℕ, ◌==◌, ◌||◌, ◌&&◌, Bool, true, false, if◌then◌else◌, Option, Some, None, List, [], ◌∷◌, ap, arith}
+use Rattle.std.specs.Prelude.{slice_get, drop, not}
 use Rattle.apdu.specs.Values.{CommandValue, ResponseValue}
+use Rattle.apdu.specs.Words.{is_one_of}
 use Rattle.apdu.specs.Apdu.{channel_of}
 use Rattle.apdu.specs.declared.class.ClassKind.{ClassKind}
 use Rattle.card_model.specs.Waiting.{WaitingValue}
@@ -14,11 +15,11 @@ use Rattle.card_model.specs.declared.world.PinState.{PinState}
 use Rattle.card_model.specs.declared.world.ChannelState.{ChannelState}
 use Rattle.card_model.specs.declared.world.Change.{Change}
 use Rattle.card_model.specs.declared.world.CardState.{CardState}
-use Rattle.card_model.specs.Card.{first_armed, application_named, current_file, current_place, record_at, channel_place, key_place}
-use Rattle.card_model.specs.Instructions.{instruction_of}
-use Rattle.card_model.specs.Answers.{unless_refused, wanted_le, le_of, parameters}
-use Rattle.card_model.specs.Select.{selected_ids, parameters_answer, selection_answer, select_found, select_application, select_ids, select_row}
-use Rattle.card_model.specs.GetResponse.{without_waiting, fetch_waiting, get_waiting, get_response_row}
+use Rattle.card_model.specs.Card.{application_id, first_armed, application_named, current_file, current_place, record_at, channel_place, key_place}
+use Rattle.card_model.specs.Instructions.{instruction_of, is_get_response}
+use Rattle.card_model.specs.Answers.{refuses, with_waiting, unless_refused, succeeds, wanted_le, le_of, parameters}
+use Rattle.card_model.specs.Select.{is_select_length, selected_ids, parameters_answer, selection_answer, select_found, select_application, select_ids, select_row}
+use Rattle.card_model.specs.GetResponse.{has_waiting_on, without_waiting, fetch_waiting, get_waiting, get_response_row}
 use Rattle.card_model.specs.Read.{read_bytes, read_record, read_part, read_refusal, read_found, read_binary_row, read_record_row}
 use Rattle.card_model.specs.Update.{with_part, with_file_at, update_refusal, update_found, update_at, update_binary_row, update_record_row}
 use Rattle.card_model.specs.Verify.{verify_found, verify_at, verify_row}
@@ -41,51 +42,56 @@ unless card (Some w) p h g = h
 module _ (changes : List Change) (card : CardState) (c : CommandValue) (h : card.armed ≡ []) where
   status_unarmed : Unarmed (status_row changes card c)
   unfolding status_row
-  status_unarmed = either _ _ _ h (either _ _ _ h h)
+  status_unarmed = grind (arith, h)
 
   profile_unarmed : Unarmed (terminal_profile_row changes card c)
   unfolding terminal_profile_row
-  profile_unarmed = either _ _ _ h (either _ _ _ h h)
+  profile_unarmed = grind (arith, h)
 
   response_unarmed : Unarmed (terminal_response_row changes card c)
   unfolding terminal_response_row
-  response_unarmed = either _ _ _ h (either _ _ _ h (either _ _ _ h h))
+  response_unarmed = grind (arith, h)
 
   -- SELECT
   answered_unarmed : (place : ℕ) (channel : ChannelState) → Unarmed (selection_answer changes card place channel c)
-  answered_unarmed place channel = either _ _ _ h (either _ _ _ h h)
+  answered_unarmed place channel = grind (arith, h)
 
   found_unarmed : (place : ℕ) (channel : ChannelState) (o : Option ℕ) → Unarmed (select_found changes card place channel c o)
   found_unarmed place channel None = h
-  found_unarmed place channel (Some app) = answered_unarmed place _
+  found_unarmed place channel (Some app) = answered_unarmed place (record channel { app = Some app; current = Some (application_id ∷ []) })
 
   ids_unarmed : (place : ℕ) (channel : ChannelState) (ids : List ℕ) → Unarmed (select_ids changes card place channel c ids)
-  ids_unarmed place channel ids = either _ _ _ (answered_unarmed place _) h
+  ids_unarmed place channel ids = grind (arith, h, answered_unarmed)
 
   select_unarmed : (place : ℕ) (channel : ChannelState) → Unarmed (select_row changes card place channel c)
   unfolding select_row
-  select_unarmed place channel = either _ _ _ h (either _ _ _ h (either _ _ _ (found_unarmed place channel (application_named c.body card)) (ids_unarmed place channel (selected_ids card channel c))))
+  select_unarmed place channel =
+      let by_name : Unarmed (select_application changes card place channel c) = found_unarmed place channel (application_named c.body card) in
+      let by_ids : Unarmed (select_ids changes card place channel c (selected_ids card channel c)) = ids_unarmed place channel (selected_ids card channel c) in
+      either (not (is_one_of c.p1 (0x00 ∷ 0x04 ∷ 0x08 ∷ [])) || not (is_one_of c.p2 (0x04 ∷ 0x0C ∷ []))) (refuses card 0x6A86) (if not (is_select_length c) then refuses card 0x6700 else if c.p1 == 0x04 then select_application changes card place channel c else select_ids changes card place channel c (selected_ids card channel c)) h
+      (either (not (is_select_length c)) (refuses card 0x6700) (if c.p1 == 0x04 then select_application changes card place channel c else select_ids changes card place channel c (selected_ids card channel c)) h
+      (either (c.p1 == 0x04) (select_application changes card place channel c) (select_ids changes card place channel c (selected_ids card channel c)) by_name by_ids))
 
   -- GET RESPONSE
   fetched_unarmed : (bytes : List ℕ) (o : Option ℕ) → Unarmed (fetch_waiting changes card bytes o)
   fetched_unarmed bytes None = h
-  fetched_unarmed bytes (Some le) = either _ _ _ h h
+  fetched_unarmed bytes (Some le) = grind (arith, h)
 
   waiting_unarmed : (channel : ChannelState) (o : Option WaitingValue) → Unarmed (get_waiting changes card channel c o)
   waiting_unarmed channel None = h
-  waiting_unarmed channel (Some w) = either _ _ _ h (fetched_unarmed w.bytes (wanted_le c))
+  waiting_unarmed channel (Some w) = grind (arith, h, fetched_unarmed)
 
   get_unarmed : (channel : ChannelState) → Unarmed (get_response_row changes card channel c)
   unfolding get_response_row
-  get_unarmed channel = either _ _ _ h (waiting_unarmed channel card.waiting)
+  get_unarmed channel = grind (arith, h, waiting_unarmed)
 
   -- READ
   record_unarmed : (file : FileState) (le : ℕ) (o : Option (List ℕ)) → Unarmed (read_record changes card file le o)
   record_unarmed file le None = h
-  record_unarmed file le (Some bytes) = either _ _ _ h h
+  record_unarmed file le (Some bytes) = grind (arith, h)
 
   bytes_unarmed : (file : FileState) (at le : ℕ) → Unarmed (read_bytes changes card file at le)
-  bytes_unarmed file at le = either _ _ _ h (either _ _ _ h (either _ _ _ h h))
+  bytes_unarmed file at le = grind (arith, h)
 
   part_unarmed : (part : Part) (file : FileState) → Unarmed (read_part changes card part file c)
   part_unarmed Binary file = bytes_unarmed file (parameters c) (le_of c)
@@ -93,7 +99,7 @@ module _ (changes : List Change) (card : CardState) (c : CommandValue) (h : card
 
   read_unarmed : (part : Part) (o : Option FileState) → Unarmed (read_found changes card part c o)
   read_unarmed part None = h
-  read_unarmed part (Some file) = unless card (read_refusal card part file c) _ h (part_unarmed part file)
+  read_unarmed part (Some file) = unless card (read_refusal card part file c) (read_part changes card part file c) h (part_unarmed part file)
 
   read_binary_unarmed : (channel : ChannelState) → Unarmed (read_binary_row changes card channel c)
   unfolding read_binary_row
@@ -106,7 +112,7 @@ module _ (changes : List Change) (card : CardState) (c : CommandValue) (h : card
   -- UPDATE
   written_unarmed : (part : Part) (place : ℕ) (o : Option FileState) → Unarmed (update_found changes card part c place o)
   written_unarmed part place None = h
-  written_unarmed part place (Some file) = unless card (update_refusal card part file c) _ h h
+  written_unarmed part place (Some file) = unless card (update_refusal card part file c) (succeeds changes (with_file_at card place (with_part part file c))) h h
 
   update_unarmed : (part : Part) (o : Option ℕ) → Unarmed (update_at changes card part c o)
   update_unarmed part None = h
@@ -123,7 +129,7 @@ module _ (changes : List Change) (card : CardState) (c : CommandValue) (h : card
   -- VERIFY
   key_unarmed : (place : ℕ) (o : Option PinState) → Unarmed (verify_found changes card c place o)
   key_unarmed place None = h
-  key_unarmed place (Some key) = either _ _ _ h (either _ _ _ h (either _ _ _ h h))
+  key_unarmed place (Some key) = grind (arith, h)
 
   verified_unarmed : (o : Option ℕ) → Unarmed (verify_at changes card c o)
   verified_unarmed None = h
@@ -131,7 +137,7 @@ module _ (changes : List Change) (card : CardState) (c : CommandValue) (h : card
 
   verify_unarmed : Unarmed (verify_row changes card c)
   unfolding verify_row
-  verify_unarmed = either _ _ _ h (verified_unarmed (key_place c.p2 card))
+  verify_unarmed = grind (arith, h, verified_unarmed)
 
   -- MANAGE CHANNEL
   number_unarmed : (o : Option ℕ) → Unarmed (open_number changes card o)
@@ -140,7 +146,7 @@ module _ (changes : List Change) (card : CardState) (c : CommandValue) (h : card
 
   le_unarmed : (o : Option ℕ) → Unarmed (open_with_le changes card o)
   le_unarmed None = h
-  le_unarmed (Some le) = either _ _ _ h (number_unarmed (free_number card))
+  le_unarmed (Some le) = grind (arith, h, number_unarmed)
 
   closed_unarmed : (o : Option ℕ) → Unarmed (close_place changes card o)
   closed_unarmed None = h
@@ -148,12 +154,15 @@ module _ (changes : List Change) (card : CardState) (c : CommandValue) (h : card
 
   manage_unarmed : Unarmed (manage_channel_row changes card c)
   unfolding manage_channel_row
-  manage_unarmed = either _ _ _ (either _ _ _ h (le_unarmed (wanted_le c))) (either _ _ _ (either _ _ _ h (either _ _ _ h (closed_unarmed (channel_place c.p2 card)))) h)
+  manage_unarmed = grind (arith, h, closed_unarmed, le_unarmed)
 
   -- FETCH
+  dropped_first : drop 1 card.armed ≡ []
+  dropped_first = ap (drop 1) h
+
   change_unarmed : (le : ℕ) (o : Option Change) → Unarmed (fetch_armed card le o)
   change_unarmed le None = h
-  change_unarmed le (Some change) = either _ _ _ h (either _ _ _ h (ap (drop 1) h))
+  change_unarmed le (Some change) = grind (arith, h, dropped_first)
 
   first_unarmed : (o : Option ℕ) → Unarmed (fetch_first changes card o)
   first_unarmed None = h
@@ -161,7 +170,7 @@ module _ (changes : List Change) (card : CardState) (c : CommandValue) (h : card
 
   fetch_unarmed : Unarmed (fetch_row changes card c)
   unfolding fetch_row
-  fetch_unarmed = either _ _ _ h (first_unarmed (wanted_le c))
+  fetch_unarmed = grind (arith, h, first_unarmed)
 
   row_unarmed : (place : ℕ) (channel : ChannelState) (row : Instruction) → Unarmed (on_row changes card place channel c row)
   row_unarmed place channel Select = select_unarmed place channel
@@ -178,13 +187,18 @@ module _ (changes : List Change) (card : CardState) (c : CommandValue) (h : card
   row_unarmed place channel TerminalResponse = response_unarmed
 
 module _ (changes : List Change) (card : CardState) (c : CommandValue) (h : card.armed ≡ []) where
-  dropped : (b : Bool) (other : CardState) → other.armed ≡ card.armed → (if b then card else other).armed ≡ []
-  dropped true other e = h
-  dropped false other e = e ∙ h
+  dropped : (b : Bool) → (if b then card else with_waiting card None).armed ≡ []
+  dropped true = h
+  dropped false = h
+
+  waiting_dropped : (channel : ChannelState) (row : Instruction) → (without_waiting card channel row).armed ≡ []
+  waiting_dropped channel row = dropped (is_get_response row && has_waiting_on card channel)
 
   kind_unarmed : (place : ℕ) (channel : ChannelState) (kind : ClassKind) (o : Option Instruction) → Unarmed (on_kind changes card place channel kind c o)
   kind_unarmed place channel kind None = h
-  kind_unarmed place channel kind (Some row) = either _ _ _ (row_unarmed changes (without_waiting card channel row) c (dropped _ _ refl) place channel row) h
+  kind_unarmed place channel kind (Some row) =
+      let row_is : Unarmed (on_row changes (without_waiting card channel row) place channel c row) = row_unarmed changes (without_waiting card channel row) c (waiting_dropped channel row) place channel row in
+      grind (arith, h, row_is)
 
   channel_unarmed : (place : ℕ) (kind : ClassKind) (o : Option ChannelState) → Unarmed (on_channel changes card place kind o c)
   channel_unarmed place kind None = h

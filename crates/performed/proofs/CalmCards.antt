@@ -181,4 +181,4 @@ while_living true x h = h refl
 
 -- while an epoch lives, the card's open channels are the basic one and those held
 pub channels_right : (s : Script) (lines : List Line) → keeps_rules s ≡ true → serves s ≡ true → are_followed s lines ≡ true → are_told s lines ≡ true → are_channels_right (world_of s lines) (kept_of s lines) ≡ true
-channels_right s lines rules served followed told = while_living (kept_of s lines).history.living _ (λ living. open_same (world_of s lines) (kept_of s lines) (handles_none s lines served) (lives_of s lines served followed told living))
+channels_right s lines rules served followed told = while_living (kept_of s lines).history.living (has_value (λ card. same_channels (open_numbers card) (held_numbers (kept_of s lines).history (kept_of s lines).handles)) (card_inside (world_of s lines))) (λ living. open_same (world_of s lines) (kept_of s lines) (handles_none s lines served) (lives_of s lines served followed told living))

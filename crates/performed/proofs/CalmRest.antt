@@ -36,7 +36,7 @@ use Rattle.rules.specs.declared.due.Due.TheVariants.{Publish as publish}
 use Rattle.rules.specs.declared.kept.Kept.{Kept}
 use Rattle.rules.specs.declared.standing.Standing.{Standing}
 use Rattle.rules.specs.Standing.{first_standing, shown_behind, standing_after}
-use Rattle.rules.specs.After.{kept_after, kept_of}
+use Rattle.rules.specs.After.{facts_of, refused_of, jobs_beside, family_begun, kept_after, kept_of}
 use Rattle.rules.specs.Due.{due, kept_text}
 use Rattle.rules.specs.Performed.{ends_turn, is_published}
 use Rattle.rules.specs.Work.{is_quiet}
@@ -77,7 +77,7 @@ unarmed_first (spec ∷ specs) = (refl, unarmed_first specs)
 
 unarmed_step_at : (w : World) (j : ℕ) (c : CommandValue) (o : Option CardState) → slice_get w.cards j ≡ o → AllUnarmed w.cards → AllUnarmed (step_of_card w j o c).0.cards
 unarmed_step_at w j c None e t = t
-unarmed_step_at w j c (Some card) e t = unarmed_set w.cards j _ t (stays_unarmed w.changes card c (unarmed_get w.cards j card t e))
+unarmed_step_at w j c (Some card) e t = unarmed_set w.cards j (on_card w.changes card c).0 t (stays_unarmed w.changes card c (unarmed_get w.cards j card t e))
 
 unarmed_step_in : (w : World) (c : CommandValue) (o : Option ℕ) → AllUnarmed w.cards → AllUnarmed (step_of_place w o c).0.cards
 unarmed_step_in w c None t = t
@@ -336,11 +336,15 @@ responses_right s (l ∷ earlier) h =
 
 -- ---- every line
 
+-- what the line does to a standing
+abbrev standing_behind : Script → Kept → Line → Standing → Standing
+standing_behind s k l st = standing_after l (facts_of s l k).event (facts_of s l k).touch (refused_of k.selected (jobs_beside l k.history.epoch (facts_of s l k) k.selected k.jobs) (facts_of s l k).answered) (family_begun s l) st
+
 abbrev BoardTrue : World → ℕ → List (List ℕ) → Kept → Type 0
 BoardTrue w count texts k = AllTrue w count texts k.standings
 
 event_board : (s : Script) (w : World) (k : Kept) (texts : List (List ℕ)) (a : ℕ) (e : WorldEvent) → is_insertion e ≡ true → is_none (refusal_of w e) ≡ true → BoardTrue w k.publications texts k → BoardTrue (after_event w e) k.publications texts (kept_after s (line.World a e) k)
-event_board s w k texts a (Insert j) i told t = all_map w (after_event w (Insert j)) k.publications k.publications texts texts _ (λ st q. record { known = q.known; shows = shown_before w _ k.publications texts st.family st.shown (none_by (card_inside w) (insert_empty w j told)) q.shows }) k.standings t
+event_board s w k texts a (Insert j) i told t = all_map w (after_event w (Insert j)) k.publications k.publications texts texts (standing_behind s k (line.World a (Insert j))) (λ st q. record { known = q.known; shows = shown_before w (after_event w (Insert j)) k.publications texts st.family st.shown (none_by (card_inside w) (insert_empty w j told)) q.shows }) k.standings t
 event_board s w k texts a Out i told t = dead i
 event_board s w k texts a (Arm j) i told t = dead i
 
@@ -365,29 +369,29 @@ module _ (s : Script) (earlier : List Line) (rules : keeps_rules s ≡ true) (se
   }) kept.standings t
 
   exchange_board : (a : ℕ) (c : CommandValue) (r : ResponseValue) → is_followed s kept (line.Exchange a c r) ≡ true → is_told s before kept (line.Exchange a c r) ≡ true → Behind (line.Exchange a c r)
-  exchange_board a c r h told_now = same_board (step before c).0 (λ f. step_shown before a c r f (unarmed_of s earlier served followed) (exchange_calm s kept a c r (sends_of s earlier served followed) h) (told_response s before kept (line.Exchange a c r) told_now)) _ (λ st. refl) (λ st. refl)
+  exchange_board a c r h told_now = same_board (step before c).0 (λ f. step_shown before a c r f (unarmed_of s earlier served followed) (exchange_calm s kept a c r (sends_of s earlier served followed) h) (told_response s before kept (line.Exchange a c r) told_now)) (standing_behind s kept (line.Exchange a c r)) (λ st. refl) (λ st. refl)
 
   published_board : (number f e n : ℕ) (text : List ℕ) → is_followed s kept (line.Published number f e n text) ≡ true → Behind (line.Published number f e n text)
   published_board number f e n text h =
       let right = responses_right s earlier told in
       let is = publication_by s earlier rules right number f e n text (due s kept) refl h in
-      all_map before before kept.publications (kept.publications + 1) texts (text ∷ texts) _ (λ st q. record { known = q.known; shows = shown_behind_true s earlier rules right number f e n text st texts is q (f == st.family) refl }) kept.standings t
+      all_map before before kept.publications (kept.publications + 1) texts (text ∷ texts) (standing_behind s kept (line.Published number f e n text)) (λ st q. record { known = q.known; shows = shown_behind_true s earlier rules right number f e n text st texts is q (f == st.family) refl }) kept.standings t
 
   ended_board : (number e n : ℕ) → Behind (line.EpochEnd number e n)
-  ended_board number e n = all_map before before kept.publications (kept.publications + 1) texts ([] ∷ texts) _ (λ st q. record { known = q.known; shows = tt }) kept.standings t
+  ended_board number e n = all_map before before kept.publications (kept.publications + 1) texts ([] ∷ texts) (standing_behind s kept (line.EpochEnd number e n)) (λ st q. record { known = q.known; shows = tt }) kept.standings t
 
   line_board : (l : Line) → is_followed s kept l ≡ true → is_told s before kept l ≡ true → Behind l
   line_board (line.Exchange a c r) h told_now = exchange_board a c r h told_now
   line_board (line.Failed a c d) h told_now = absurd (never_failed s before kept a c d served told_now)
-  line_board (line.Reset a) h told_now = same_board (after_reset before) (λ f. reset_shown before f (card_inside before) refl (done_there s before kept told_now)) _ (λ st. refl) (λ st. refl)
-  line_board (line.ResetFailed a) h told_now = same_board before (λ f. refl) _ (λ st. refl) (λ st. refl)
+  line_board (line.Reset a) h told_now = same_board (after_reset before) (λ f. reset_shown before f (card_inside before) refl (done_there s before kept told_now)) (standing_behind s kept (line.Reset a)) (λ st. refl) (λ st. refl)
+  line_board (line.ResetFailed a) h told_now = same_board before (λ f. refl) (standing_behind s kept (line.ResetFailed a)) (λ st. refl) (λ st. refl)
   line_board (line.World a e) h told_now = event_board s before kept texts a e (world_insertion s kept a e (sends_of s earlier served followed) h) told_now t
-  line_board (line.Turn a) h told_now = same_board before (λ f. refl) _ (λ st. refl) (λ st. refl)
-  line_board (line.Begin a i) h told_now = same_board before (λ f. refl) _ (λ st. refl) (λ st. refl)
+  line_board (line.Turn a) h told_now = same_board before (λ f. refl) (standing_behind s kept (line.Turn a)) (λ st. refl) (λ st. refl)
+  line_board (line.Begin a i) h told_now = same_board before (λ f. refl) (standing_behind s kept (line.Begin a i)) (λ st. refl) (λ st. refl)
   line_board (line.Published number f e n text) h told_now = published_board number f e n text h
   line_board (line.EpochEnd number e n) h told_now = ended_board number e n
-  line_board (line.Refused f n) h told_now = same_board before (λ f. refl) _ (λ st. refl) (λ st. refl)
-  line_board (line.Answered a i given) h told_now = same_board before (λ f. refl) _ (λ st. refl) (λ st. refl)
+  line_board (line.Refused f n) h told_now = same_board before (λ f. refl) (standing_behind s kept (line.Refused f n)) (λ st. refl) (λ st. refl)
+  line_board (line.Answered a i given) h told_now = same_board before (λ f. refl) (standing_behind s kept (line.Answered a i given)) (λ st. refl) (λ st. refl)
 
 -- the board shows of each family what the card shows
 board_true : (s : Script) (lines : List Line) → keeps_rules s ≡ true → serves s ≡ true → are_followed s lines ≡ true → are_told s lines ≡ true → BoardTrue (world_of s lines) (kept_of s lines).publications (texts_of lines) (kept_of s lines)
@@ -416,7 +420,7 @@ while_quiet false x h = refl
 while_quiet true x h = h
 
 rest_by : (st : State) (changed : ℕ → ℕ) → BoardTrue st.world st.kept.publications st.texts st.kept → is_rest_right st changed ≡ true
-rest_by st changed t = while_quiet (is_quiet st.kept) _ (all_right st.world st.kept.publications st.texts changed st.kept.standings t)
+rest_by st changed t = while_quiet (is_quiet st.kept) (list_all (is_standing_right st.world (λ n. text_of st.kept.publications n st.texts) changed) st.kept.standings) (all_right st.world st.kept.publications st.texts changed st.kept.standings t)
 
 state_board : (s : Script) (lines : List Line) → BoardTrue (world_of s lines) (kept_of s lines).publications (texts_of lines) (kept_of s lines) → BoardTrue (state_of s lines).world (state_of s lines).kept.publications (state_of s lines).texts (state_of s lines).kept
 state_board s lines t =

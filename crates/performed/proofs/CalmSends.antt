@@ -1,11 +1,11 @@
 -- Over a script that is served no command is an UPDATE, a VERIFY or a MANAGE CHANNEL, and no answer is that an edit was done.
-use Rattle.std.proofs.Common.{◌≡◌, ℕ, zero, suc, ◌==◌, ◌&&◌, not, Bool, true, false, if◌then◌else◌, Option, Some, None, List, [], ◌∷◌, ◌+◌, refl, ap, sym, ◌∙◌, subst, true≢false}
+use Rattle.std.proofs.Common.{◌≡◌, ℕ, zero, suc, ◌==◌, ◌&&◌, not, Bool, true, false, if◌then◌else◌, Option, Some, None, List, [], ◌∷◌, ◌+◌, ◌%◌, length, refl, ap, sym, ◌∙◌, subst, true≢false}
 use Rattle.std.specs.Prelude.{slice_get, unwrap_or, option_map, option_and_then}
 use Rattle.std.specs.List.{list_all}
 use Rattle.std.proofs.lemmas.Bool.{and_parts, eqb-true, not-true}
 use Rattle.apdu.specs.Values.{CommandValue, ResponseValue}
 use Rattle.apdu.specs.Words.{has_value, or_else, is_empty, same_number, same_bytes}
-use Rattle.apdu.specs.Apdu.{same_command, is_update_ins, verify_ins, manage_channel_ins, terminal_response_ins, fetch_ins, is_success, has_more}
+use Rattle.apdu.specs.Apdu.{same_command, is_update_ins, verify_ins, manage_channel_ins, terminal_response_ins, fetch_ins, is_success, has_more, with_le, le_of_byte}
 use Rattle.refresh_cmd.specs.Values.{ProactiveValue}
 use Rattle.fcp.specs.declared.control.Fcp.{Fcp}
 use Rattle.fcp.specs.declared.rows.FileKind.{FileKind}
@@ -24,14 +24,14 @@ use Rattle.report.specs.declared.line.Line.TheVariants as line
 use Rattle.families.specs.Families.{family_paths}
 use Rattle.link.specs.declared.chain.Chain.{Chain}
 use Rattle.link.specs.declared.chain.Final.{Final}
-use Rattle.link.specs.Commands.{follow_up, asks_more, chain_count, chain_after, final_after, is_at}
+use Rattle.link.specs.Commands.{get_response_for, follow_up, asks_more, chain_count, chain_first, chain_after, final_after, select_only, is_at}
 use Rattle.epoch_cache.specs.Past.{is_insertion}
 use Rattle.epoch_cache.specs.declared.cached.CachedFile.{CachedFile}
 use Rattle.epoch_cache.specs.Cache.{first_missing, asks_reset, handed_refresh}
 use Rattle.loader.specs.Values.{ReadingValue}
-use Rattle.loader.specs.Reading.{reading_of, is_complete, read_by, next_read}
+use Rattle.loader.specs.Reading.{reading_of, is_complete, read_by, read_number, next_read}
 use Rattle.loader.specs.Load.{selected_first, next_or_select, reading_command, is_selected, read_behind}
-use Rattle.refresher.specs.Refresh.{startup_command, owed_unless, owed_to, owed_after, owed_by}
+use Rattle.refresher.specs.Refresh.{profile_command, select_usim, startup_command, fetch_command, owed_unless, owed_to, owed_after, owed_by}
 use Rattle.rules.specs.declared.due.Due.{Due}
 use Rattle.rules.specs.declared.due.Due.TheVariants.{Give as give, TryEvent as try_event}
 use Rattle.rules.specs.declared.kept.Begun.{Begun}
@@ -47,13 +47,13 @@ use Rattle.rules.specs.declared.kept.Work.{Work}
 use Rattle.rules.specs.declared.kept.Work.TheVariants.{Rests as rests, Refuses as refuses, Lacks as lacks, Sends as sends, Reads as reads, Writes as writes, Resets as resets, Happens as happens}
 use Rattle.loader.specs.declared.reading.RefusedReading.{RefusedReading}
 use Rattle.rules.specs.History.{lives_in}
-use Rattle.rules.specs.Refresh.{owed_behind}
+use Rattle.rules.specs.Channels.{held_numbers}
 use Rattle.rules.specs.Kept.{operations_of, operation_at, begun_of, begun_operation, operation_now, job_of}
 use Rattle.rules.specs.Standing.{first_stale}
 use Rattle.rules.specs.Work.{is_starting, read_stale, first_item, framework_work, reads_first, if_living, work_of_operation}
-use Rattle.rules.specs.After.{next_or_over, stage_of_sent, stage_of_framework, stage_of_read, stage_after, turn_exchanged, decision_of_begun, decision_at, fresh_begun, facts_of, kept_after, kept_of}
+use Rattle.rules.specs.After.{is_raw, next_or_over, stage_of_sent, stage_of_framework, stage_of_read, stage_after, opened_behind, turn_answered, decision_of_begun, decision_at, fresh_begun, facts_of, refused_of, jobs_beside, jobs_of_actor, kept_after, kept_of}
 use Rattle.rules.specs.Due.{first_command, first_of_turn, command_by_stage, command_by_chain, due_command, with_ended, with_card, loaded, answer_of_outcome, outcome_answer, answer_of, answer_of_begun, answer_of_actor, due_answer, is_lost, event_of, event_by_stage, due}
-use Rattle.rules.specs.Rules.{is_turn_of, is_begun_at, same_event, same_answer, is_outside_raw, is_update_right, is_lost_update_right, world_failed, is_verify_right, has_right_edit, has_right_verify}
+use Rattle.rules.specs.Rules.{is_turn_of, is_begun_at, same_event, same_answer, is_outside_raw, is_update_right, is_lost_update_right, world_failed, is_verify_of, has_verified, begun_in_turn, turn_operation, has_right_edit, has_right_verify}
 use Rattle.rules.specs.State.{world_of}
 use Rattle.rules.proofs.Performing.{due-exchange, due-failed}
 use Rattle.rules.proofs.Says.{says_of}
@@ -135,14 +135,14 @@ follow_calm_by true c d h g = h
 follow_calm_by false c d h g = g
 
 follow_calm : (c : CommandValue) (r : ResponseValue) → is_calm c.ins ≡ true → is_calm (follow_up c r).ins ≡ true
-follow_calm c r h = follow_calm_by (has_more r.sw) _ _ refl h
+follow_calm c r h = follow_calm_by (has_more r.sw) (get_response_for c (le_of_byte (r.sw % 256))) (with_le (le_of_byte (r.sw % 256)) c) refl h
 
 chain_by : (b : Bool) (chain : Chain) → is_calm chain.next.ins ≡ true → CalmChain (if b then Some chain else None)
 chain_by true chain h = h
 chain_by false chain h = tt
 
 chain_calm : (c : CommandValue) (r : ResponseValue) (before : Option Chain) → is_calm c.ins ≡ true → CalmChain (chain_after c r before)
-chain_calm c r before h = chain_by (asks_more (chain_count c before + 1) c r) _ (follow_calm c r h)
+chain_calm c r before h = chain_by (asks_more (chain_count c before + 1) c r) (record { first = chain_first c before; count = chain_count c before + 1; next = follow_up c r }) (follow_calm c r h)
 
 -- ---- what reads
 
@@ -156,10 +156,10 @@ calm_unless true c h = tt
 calm_unless false c h = h
 
 next_calm : (g : ReadingValue) → Calm (next_read g)
-next_calm g = calm_unless (is_complete g) _ (read_calm g.control.kind g.control _)
+next_calm g = calm_unless (is_complete g) (read_number g.control (length g.rows)) (read_calm g.control.kind g.control (length g.rows))
 
 first_calm : (selected : Option (List ℕ)) (path : List ℕ) (c : CommandValue) → is_calm c.ins ≡ true → is_calm (selected_first selected path c).ins ≡ true
-first_calm selected path c h = follow_calm_by (is_at selected path) c _ h refl
+first_calm selected path c h = follow_calm_by (is_at selected path) c (select_only path) h refl
 
 select_calm : (selected : Option (List ℕ)) (path : List ℕ) (o : Option CommandValue) → Calm o → is_calm (next_or_select selected path o).ins ≡ true
 select_calm selected path None h = refl
@@ -178,7 +178,7 @@ calm_if true o h = h
 calm_if false o h = tt
 
 behind_calm : (path : List ℕ) (readings : List ReadingValue) (f : Final) → Calm (read_behind path readings f)
-behind_calm path readings f = calm_if (is_selected f) _ (next_of (reading_of path readings))
+behind_calm path readings f = calm_if (is_selected f) (option_and_then next_read (reading_of path readings)) (next_of (reading_of path readings))
 
 -- ---- what is due
 
@@ -284,7 +284,7 @@ work_elim false v w h g = g
 
 operation_calm : (k : Kept) (actor : ℕ) (b : Begun) (op : Operation) → is_served op ≡ true → CalmWork (work_of_operation k actor b op).work
 operation_calm k actor b (operation.Insert card) h = refl
-operation_calm k actor b (operation.Load f) h = work_if (lives_in k.history b.epoch) _ _ (reads_first_calm k.files (family_paths f)) tt
+operation_calm k actor b (operation.Load f) h = work_if (lives_in k.history b.epoch) (reads_first k.files (family_paths f)) rests (reads_first_calm k.files (family_paths f)) tt
 operation_calm k actor b operation.Look h = tt
 operation_calm k actor b op h = absurd (true≢false (sym h))
 
@@ -298,21 +298,27 @@ stale_calm k None = tt
 stale_calm k (Some f) = reads_first_calm k.files (family_paths f)
 
 startup_calm : (step : ℕ) → is_calm (startup_command step).ins ≡ true
-startup_calm step = follow_calm_by (step == 0) _ _ refl refl
+startup_calm step = follow_calm_by (step == 0) profile_command select_usim refl refl
 
-announced_calm : (k : Kept) (o : Option ℕ) → CalmWork (elim o [ Some byte ↦ sends (fetch_command byte) | None ↦ read_stale k ])
+abbrev announced_item : Kept → Option ℕ → Work
+announced_item k o = elim o [ Some byte ↦ sends (fetch_command byte) | None ↦ read_stale k ]
+
+announced_calm : (k : Kept) (o : Option ℕ) → CalmWork (announced_item k o)
 announced_calm k None = stale_calm k (first_stale k.standings)
 announced_calm k (Some byte) = refl
 
-owed_item_calm : (k : Kept) (o : Option CommandValue) → Calm o → CalmWork (elim o [ Some c ↦ sends c | None ↦ elim k.history.announced [ Some byte ↦ sends (fetch_command byte) | None ↦ read_stale k ] ])
+abbrev owed_item : Kept → Option CommandValue → Work
+owed_item k o = elim o [ Some c ↦ sends c | None ↦ announced_item k k.history.announced ]
+
+owed_item_calm : (k : Kept) (o : Option CommandValue) → Calm o → CalmWork (owed_item k o)
 owed_item_calm k None h = announced_calm k k.history.announced
 owed_item_calm k (Some c) h = h
 
 item_calm : (k : Kept) → Calm k.owed → CalmWork (first_item k)
-item_calm k h = work_if (is_starting k) _ _ (startup_calm k.startup) (owed_item_calm k k.owed h)
+item_calm k h = work_if (is_starting k) (sends (startup_command k.startup)) (owed_item k k.owed) (startup_calm k.startup) (owed_item_calm k k.owed h)
 
 framework_calm : (k : Kept) → Calm k.owed → CalmWork (framework_work k)
-framework_calm k h = work_if k.history.owes_reset _ _ tt (work_elim k.history.living _ _ (item_calm k h) tt)
+framework_calm k h = work_if k.history.owes_reset resets (elim k.history.living [ true ↦ first_item k | false ↦ rests ]) tt (work_elim k.history.living (first_item k) rests (item_calm k h) tt)
 
 marked_calm : (s : Script) (a : ℕ) (k : Kept) → serves s ≡ true → Calm k.owed → CalmWork (decision_at s (line.Turn a) k).work
 marked_calm s zero k served h = framework_calm k h
@@ -349,13 +355,16 @@ stage_calm resets op opened job refresh f h w = tt
 stage_calm (happens e) op opened job refresh f h w = tt
 
 -- behind an exchange, final or not
-exchanged_stage : (op : Option Operation) (job : Job) (held : List ℕ) (facts : Facts) (refused : Option RefusedReading) (t : Turn) (o : Option Final) → facts.answered ≡ o → ServedOp op → CalmStage t.stage → CalmWork t.work → CalmStage (turn_exchanged op job held facts refused t).stage
-exchanged_stage op job held facts refused t None e h g w = rw e g
-exchanged_stage op job held facts refused t (Some f) e h g w = rw e (stage_calm t.work op _ job facts.touch.refresh f h w)
+abbrev turn_by : Option Operation → Job → List ℕ → Facts → Option RefusedReading → Turn → Option Final → Turn
+turn_by op job held facts refused t o = elim o [ None ↦ record t { bare = false } | Some f ↦ turn_answered op job (opened_behind held f t.opened) facts.touch.refresh refused f t ]
 
-exchanged_work : (op : Option Operation) (job : Job) (held : List ℕ) (facts : Facts) (refused : Option RefusedReading) (t : Turn) (o : Option Final) → facts.answered ≡ o → CalmWork t.work → CalmWork (turn_exchanged op job held facts refused t).work
-exchanged_work op job held facts refused t None e w = rw e w
-exchanged_work op job held facts refused t (Some f) e w = rw e w
+exchanged_stage : (op : Option Operation) (job : Job) (held : List ℕ) (facts : Facts) (refused : Option RefusedReading) (t : Turn) (o : Option Final) → ServedOp op → CalmStage t.stage → CalmWork t.work → CalmStage (turn_by op job held facts refused t o).stage
+exchanged_stage op job held facts refused t None h g w = g
+exchanged_stage op job held facts refused t (Some f) h g w = stage_calm t.work op (opened_behind held f t.opened) job facts.touch.refresh f h w
+
+exchanged_work : (op : Option Operation) (job : Job) (held : List ℕ) (facts : Facts) (refused : Option RefusedReading) (t : Turn) (o : Option Final) → CalmWork t.work → CalmWork (turn_by op job held facts refused t o).work
+exchanged_work op job held facts refused t None w = w
+exchanged_work op job held facts refused t (Some f) w = w
 
 -- ---- the TERMINAL RESPONSE
 
@@ -368,7 +377,7 @@ calm_elim true o p h g = h
 calm_elim false o p h g = g
 
 owed_to_calm : (refresh : Option ProactiveValue) (f : Final) → Calm (owed_to refresh f)
-owed_to_calm refresh f = calm_elim (is_success f.response.sw) _ _ (owed_reset_calm (has_value asks_reset refresh) f.response.body) tt
+owed_to_calm refresh f = calm_elim (is_success f.response.sw) (owed_unless (has_value asks_reset refresh) f.response.body) None (owed_reset_calm (has_value asks_reset refresh) f.response.body) tt
 
 calm_none_if : (b : Bool) (o : Option CommandValue) → Calm o → Calm (if b then None else o)
 calm_none_if true o h = tt
@@ -376,7 +385,7 @@ calm_none_if false o h = h
 
 owed_calm : (refresh : Option ProactiveValue) (f : Option Final) (before : Option CommandValue) → Calm before → Calm (owed_by refresh f before)
 owed_calm refresh None before h = h
-owed_calm refresh (Some f) before h = calm_elim (f.command.ins == fetch_ins) _ _ (owed_to_calm refresh f) (calm_none_if (f.command.ins == terminal_response_ins) before h)
+owed_calm refresh (Some f) before h = calm_elim (f.command.ins == fetch_ins) (owed_to refresh f) (if f.command.ins == terminal_response_ins then None else before) (owed_to_calm refresh f) (calm_none_if (f.command.ins == terminal_response_ins) before h)
 
 -- ---- every line
 
@@ -388,12 +397,19 @@ module _ (s : Script) (served : serves s ≡ true) (k : Kept) (t : Sends k) wher
   begin_sends a i = record { chain = tt; stage = t.stage; work = begun_calm k a (Some (fresh_begun i k.history)) (operation_at s a i) (served_at s a i served); owed = t.owed }
 
   exchange_sends : (a : ℕ) (c : CommandValue) (r : ResponseValue) → is_calm c.ins ≡ true → Sends (kept_after s (line.Exchange a c r) k)
-  exchange_sends a c r h = record {
-    chain = chain_calm c r k.chain h;
-    stage = exchanged_stage (operation_now s a k.jobs) _ _ (facts_of s (line.Exchange a c r) k) _ k.turn _ refl (served_now s a k.jobs served) t.stage t.work;
-    work = exchanged_work (operation_now s a k.jobs) _ _ (facts_of s (line.Exchange a c r) k) _ k.turn _ refl t.work;
-    owed = owed_calm (handed_refresh c r) (final_after a c r k.history.events k.chain) k.owed t.owed;
-  }
+  exchange_sends a c r h =
+      let l : Line = line.Exchange a c r in
+      let facts : Facts = facts_of s l k in
+      let op : Option Operation = operation_now s a k.jobs in
+      let beside : List Job = jobs_beside l k.history.epoch facts k.selected k.jobs in
+      let job : Job = job_of a (jobs_of_actor s l k facts (decision_at s l k).attempt (Some a) beside) in
+      let refused : Option RefusedReading = refused_of k.selected beside facts.answered in
+      record {
+        chain = chain_calm c r k.chain h;
+        stage = exchanged_stage op job (held_numbers k.history k.handles) facts refused k.turn facts.answered (served_now s a k.jobs served) t.stage t.work;
+        work = exchanged_work op job (held_numbers k.history k.handles) facts refused k.turn facts.answered t.work;
+        owed = owed_calm (handed_refresh c r) (final_after a c r k.history.events k.chain) k.owed t.owed;
+      }
 
   failed_sends : (a : ℕ) (c : CommandValue) (d : Bool) → Sends (kept_after s (line.Failed a c d) k)
   failed_sends a c d = record { chain = tt; stage = tt; work = t.work; owed = tt }
@@ -487,7 +503,7 @@ moved_undone false = tt
 
 answer_undone : (k : Kept) (actor : ℕ) (job : Job) (b : Begun) (op : Operation) → is_served op ≡ true → Undone (answer_of k actor job b op)
 answer_undone k actor job b (operation.Insert card) h = moved_undone k.turn.happened
-answer_undone k actor job b (operation.Load f) h = card_undone b.epoch b _ (else_undone (loaded k.turn.published) (outcome_answer k.turn) (loaded_undone k.turn.published) (came_undone k.turn.outcome))
+answer_undone k actor job b (operation.Load f) h = card_undone b.epoch b (or_else (loaded k.turn.published) (outcome_answer k.turn)) (else_undone (loaded k.turn.published) (outcome_answer k.turn) (loaded_undone k.turn.published) (came_undone k.turn.outcome))
 answer_undone k actor job b operation.Look h = refl
 answer_undone k actor job b op h = absurd (true≢false (sym h))
 
@@ -538,8 +554,8 @@ answered_edit s w k a i (answer.Done n published left) served h = absurd (done_n
 answered_edit s w k a i given served h = refl
 
 line_edit : (s : Script) (w : World) (k : Kept) (l : Line) → serves s ≡ true → Sends k → is_followed s k l ≡ true → has_right_edit s w k l ≡ true
-line_edit s w k (line.Exchange a c r) served t h = edit_by (is_update_ins c.ins) _ _ (no_update c.ins (exchange_calm s k a c r t h))
-line_edit s w k (line.Failed a c d) served t h = edit_by (is_update_ins c.ins) _ _ (no_update c.ins (failed_calm s k a c d t h))
+line_edit s w k (line.Exchange a c r) served t h = edit_by (is_update_ins c.ins) (not (has_value is_raw (turn_operation s k))) (is_update_right s w k c r) (no_update c.ins (exchange_calm s k a c r t h))
+line_edit s w k (line.Failed a c d) served t h = edit_by (is_update_ins c.ins) (not (has_value is_raw (turn_operation s k))) (is_lost_update_right s w (world_failed w c d) k c) (no_update c.ins (failed_calm s k a c d t h))
 line_edit s w k (line.Answered a i given) served t h = answered_edit s w k a i given served h
 line_edit s w k (line.Turn a) served t h = refl
 line_edit s w k (line.Begin a i) served t h = refl
@@ -551,8 +567,8 @@ line_edit s w k (line.EpochEnd n e v) served t h = refl
 line_edit s w k (line.Refused f n) served t h = refl
 
 line_verify : (s : Script) (k : Kept) (l : Line) → Sends k → is_followed s k l ≡ true → has_right_verify s k l ≡ true
-line_verify s k (line.Exchange a c r) t h = verify_by (c.ins == verify_ins) _ (no_verify c.ins (exchange_calm s k a c r t h))
-line_verify s k (line.Failed a c d) t h = verify_by (c.ins == verify_ins) _ (no_verify c.ins (failed_calm s k a c d t h))
+line_verify s k (line.Exchange a c r) t h = verify_by (c.ins == verify_ins) (is_verify_of (turn_operation s k) c && not (has_verified (begun_in_turn k k.turn.actor))) (no_verify c.ins (exchange_calm s k a c r t h))
+line_verify s k (line.Failed a c d) t h = verify_by (c.ins == verify_ins) (is_verify_of (turn_operation s k) c && not (has_verified (begun_in_turn k k.turn.actor))) (no_verify c.ins (failed_calm s k a c d t h))
 line_verify s k (line.Turn a) t h = refl
 line_verify s k (line.Begin a i) t h = refl
 line_verify s k (line.Reset a) t h = refl

@@ -1,3 +1,10 @@
+mod Counts
+mod MeasureSays
+mod MeasureShape
+mod MeasureBegun
+mod MeasureNumbers
+mod Measure
+mod CalmLent
 mod CalmSends
 mod CalmArmed
 mod CalmCards
