@@ -31,10 +31,10 @@ use Rattle.rules.specs.Kept.{operation_at}
 use Rattle.rules.specs.After.{facts_of, handles_given, handles_behind, kept_after, kept_of}
 use Rattle.rules.specs.Rules.{has_right_response, has_right_fault, is_failing, next_fault, open_numbers, are_channels_right}
 use Rattle.rules.specs.State.{world_after, world_of}
-use Rattle.rules.proofs.Worlds.{get_set, steps_card}
 use Rattle.performed.specs.Served.{is_served, serves}
 use Rattle.performed.specs.Followed.{is_followed, are_followed}
 use Rattle.performed.specs.Told.{is_told, are_told}
+use Rattle.performed.proofs.CalmLent.{get_set, steps_card}
 use Rattle.performed.proofs.CalmSends.{ServedOp, served_at, is_calm, no_manage, Sends, exchange_calm, world_insertion, sends_of}
 
 -- ---- the handles
@@ -49,7 +49,10 @@ served_handles a (operation.Load f) given epoch handles h e = e
 served_handles a operation.Look given epoch handles h e = e
 served_handles a op given epoch handles h e = absurd (true≢false (sym h))
 
-given_handles : (a : ℕ) (op : Option Operation) (given : Answer) (epoch : ℕ) (handles : List Handle) → ServedOp op → handles ≡ [] → elim op [ None ↦ handles | Some o ↦ handles_after a o given epoch handles ] ≡ []
+abbrev handles_by : ℕ → Option Operation → Answer → ℕ → List Handle → List Handle
+handles_by a op given epoch handles = elim op [ None ↦ handles | Some o ↦ handles_after a o given epoch handles ]
+
+given_handles : (a : ℕ) (op : Option Operation) (given : Answer) (epoch : ℕ) (handles : List Handle) → ServedOp op → handles ≡ [] → handles_by a op given epoch handles ≡ []
 given_handles a None given epoch handles h e = e
 given_handles a (Some op) given epoch handles h e = served_handles a op given epoch handles h e
 
@@ -85,7 +88,7 @@ same_numbers card c p h changed = elim changed.does [
 step_holds : (w : World) (c : CommandValue) → is_calm c.ins ≡ true → Holds w → Holds (step w c).0
 step_holds w c h at = record {
   card = (on_card w.changes at.card c).0;
-  inside = (steps_card w at.card c at.inside).inside;
+  inside = steps_card w at.card c at.inside;
   basic = same_numbers at.card c (on_card w.changes at.card c) h (numbers_effect w.changes at.card c (on_card w.changes at.card c) (effect w.changes at.card c)) ∙ at.basic;
 }
 

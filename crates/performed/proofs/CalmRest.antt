@@ -42,15 +42,13 @@ use Rattle.rules.specs.Performed.{ends_turn, is_published}
 use Rattle.rules.specs.Work.{is_quiet}
 use Rattle.rules.specs.Rules.{has_right_response, has_right_fault, next_fault, is_failing, is_acting, same_flag, is_refusal_known, is_shown_right, is_standing_right, is_rest_right}
 use Rattle.rules.specs.State.{content_on, shown_on, shown_in, same_shown, text_of, texts_after, texts_of, world_after, world_of, State, state_of}
+use Rattle.rules.specs.Laws.{ShowsCard}
 use Rattle.rules.specs.Legal.{changed_in}
 use Rattle.rules.specs.Agreement.{are_responses_right}
-use Rattle.rules.proofs.Agree.{due_is_shown}
-use Rattle.rules.proofs.Selected.{answers_right}
-use Rattle.rules.proofs.States.{state_world, state_kept, state_texts}
-use Rattle.rules.proofs.Worlds.{get_set}
 use Rattle.performed.specs.Served.{is_served, serves}
 use Rattle.performed.specs.Followed.{is_followed, are_followed}
 use Rattle.performed.specs.Told.{is_told, are_told}
+use Rattle.performed.proofs.CalmLent.{get_set, steps_card, card_there, state_world, state_kept, state_texts}
 use Rattle.performed.proofs.CalmSends.{is_calm, no_update, Sends, exchange_calm, world_insertion, sends_of}
 use Rattle.performed.proofs.CalmArmed.{stays_unarmed}
 use Rattle.performed.proofs.CalmCards.{dead, done_there, insert_empty}
@@ -169,9 +167,10 @@ shown_same w v old new f before behind files aids = ap (λ (o : Option CardState
 
 step_shown : (w : World) (a : ℕ) (c : CommandValue) (r : ResponseValue) (f : ℕ) → AllUnarmed w.cards → is_calm c.ins ≡ true → has_right_response w (line.Exchange a c r) ≡ true → shown_in (step w c).0 f ≡ shown_in w f
 step_shown w a c r f unarmed h right =
-    let t = answers_right w a c r right in
-    let does : Effect w.changes t.card c (on_card w.changes t.card c) = effect w.changes t.card c in
-    shown_same w (step w c).0 t.card (on_card w.changes t.card c).0 f t.inside t.behind (files_stay w.changes t.card c (on_card w.changes t.card c) h (inside_unarmed w t.card unarmed t.inside) does) (effect_aids w.changes t.card c (on_card w.changes t.card c) does)
+    let t = card_there w c r right in
+    let p : CardState × ResponseValue = on_card w.changes t.0 c in
+    let does : Effect w.changes t.0 c p = effect w.changes t.0 c in
+    shown_same w (step w c).0 t.0 p.0 f t.1 (steps_card w t.0 c t.1) (files_stay w.changes t.0 c p h (inside_unarmed w t.0 unarmed t.1) does) (effect_aids w.changes t.0 c p does)
 
 reset_by : (w : World) (card : CardState) (o : Option ℕ) → option_and_then (λ j. slice_get w.cards j) o ≡ Some card → card_inside (reset_in w o) ≡ Some (reset_card card)
 reset_by w card None e = absurd (cc)
@@ -281,35 +280,32 @@ shown_new w count text texts f h = record { upto = to_itself count; text = ap (�
 
 record IsToldTrue (w : World) (k : Kept) (number f : ℕ) (text : List ℕ) : Type 0 where
   next : number ≡ k.publications + 1
-  shows : is_one_of f all_families ≡ true → same_shown (shown_in w f) (Some text) ≡ true
+  shown : is_one_of f all_families ≡ true → same_shown (shown_in w f) (Some text) ≡ true
 
-module _ (s : Script) (earlier : List Line) (rules : keeps_rules s ≡ true) (right : are_responses_right s earlier ≡ true) where
+module _ (shows : ShowsCard) (s : Script) (earlier : List Line) (rules : keeps_rules s ≡ true) (right : are_responses_right s earlier ≡ true) where
   abbrev w : World
   w = world_of s earlier
 
   abbrev k : Kept
   k = kept_of s earlier
 
-  publication_shows : (f g : ℕ) (text : List ℕ) → f ≡ g → text ≡ kept_text g k → due s k ≡ publish g → is_one_of f all_families ≡ true → same_shown (shown_in w f) (Some text) ≡ true
-  publication_shows f g text family same is one =
-      ap (λ (x : ℕ). same_shown (shown_in w x) (Some text)) family
-      ∙ ap (λ (x : List ℕ). same_shown (shown_in w g) (Some x)) same
-      ∙ due_is_shown s earlier g rules right (ap (λ (x : ℕ). is_one_of x all_families) (sym family) ∙ one) is
+  publication_shows : (f g : ℕ) (text : List ℕ) → f ≡ g → text ≡ kept_text f k → due s k ≡ publish g → is_one_of f all_families ≡ true → same_shown (shown_in w f) (Some text) ≡ true
+  publication_shows f g text family same is one = ap (λ (x : List ℕ). same_shown (shown_in w f) (Some x)) same ∙ shows s earlier f rules right one (is ∙ ap (λ (x : ℕ). publish x) (sym family))
 
   publication_by : (number f e n : ℕ) (text : List ℕ) (d : Due) → due s k ≡ d → is_published k number f e n text d ≡ true → IsToldTrue w k number f text
   publication_by number f e n text (publish g) is h =
-      let p = and_parts (f == g) ((number == k.publications + 1) && (e == k.history.epoch) && (n == k.history.events) && same_bytes text (kept_text g k)) h in
-      let q = and_parts (number == k.publications + 1) ((e == k.history.epoch) && (n == k.history.events) && same_bytes text (kept_text g k)) p.1 in
-      let r = and_parts (e == k.history.epoch) ((n == k.history.events) && same_bytes text (kept_text g k)) q.1 in
-      let t = and_parts (n == k.history.events) (same_bytes text (kept_text g k)) r.1 in
-      record { next = eqb-true number (k.publications + 1) q.0; shows = publication_shows f g text (eqb-true f g p.0) (same_bytes_is text (kept_text g k) t.1) is }
+      let q4 = and_parts ((f == g) && (number == k.publications + 1) && (e == k.history.epoch) && (n == k.history.events)) (same_bytes text (kept_text f k)) h in
+      let q3 = and_parts ((f == g) && (number == k.publications + 1) && (e == k.history.epoch)) (n == k.history.events) q4.0 in
+      let q2 = and_parts ((f == g) && (number == k.publications + 1)) (e == k.history.epoch) q3.0 in
+      let q1 = and_parts (f == g) (number == k.publications + 1) q2.0 in
+      record { next = eqb-true number (k.publications + 1) q1.1; shown = publication_shows f g text (eqb-true f g q1.0) (same_bytes_is text (kept_text f k) q4.1) is }
   publication_by number f e n text d is h = dead h
 
   shown_behind_true : (number f e n : ℕ) (text : List ℕ) (st : Standing) (texts : List (List ℕ)) → IsToldTrue w k number f text → StandsTrue w k.publications texts st → (b : Bool) → (f == st.family) ≡ b → IsShown w (k.publications + 1) (text ∷ texts) st.family (if b then Some number else st.shown)
   shown_behind_true number f e n text st texts told t false h = shown_later w k.publications text texts st.family st.shown t.shows
   shown_behind_true number f e n text st texts told t true h =
       let family : f ≡ st.family = eqb-true f st.family h in
-      let shows : same_shown (shown_in w st.family) (Some text) ≡ true = subst (λ (x : ℕ). same_shown (shown_in w x) (Some text) ≡ true) family (told.shows (subst (λ (x : ℕ). is_one_of x all_families ≡ true) (sym family) t.known)) in
+      let shows : same_shown (shown_in w st.family) (Some text) ≡ true = subst (λ (x : ℕ). same_shown (shown_in w x) (Some text) ≡ true) family (told.shown (subst (λ (x : ℕ). is_one_of x all_families ≡ true) (sym family) t.known)) in
       subst (λ (x : ℕ). IsTrue w (k.publications + 1) (text ∷ texts) st.family x) (sym told.next) (shown_new w k.publications text texts st.family shows)
 
 -- ---- the answers of the card
@@ -348,7 +344,7 @@ event_board s w k texts a (Insert j) i told t = all_map w (after_event w (Insert
 event_board s w k texts a Out i told t = dead i
 event_board s w k texts a (Arm j) i told t = dead i
 
-module _ (s : Script) (earlier : List Line) (rules : keeps_rules s ≡ true) (served : serves s ≡ true) (followed : are_followed s earlier ≡ true) (told : are_told s earlier ≡ true) (t : BoardTrue (world_of s earlier) (kept_of s earlier).publications (texts_of earlier) (kept_of s earlier)) where
+module _ (shows : ShowsCard) (s : Script) (earlier : List Line) (rules : keeps_rules s ≡ true) (served : serves s ≡ true) (followed : are_followed s earlier ≡ true) (told : are_told s earlier ≡ true) (t : BoardTrue (world_of s earlier) (kept_of s earlier).publications (texts_of earlier) (kept_of s earlier)) where
   abbrev before : World
   before = world_of s earlier
 
@@ -374,8 +370,8 @@ module _ (s : Script) (earlier : List Line) (rules : keeps_rules s ≡ true) (se
   published_board : (number f e n : ℕ) (text : List ℕ) → is_followed s kept (line.Published number f e n text) ≡ true → Behind (line.Published number f e n text)
   published_board number f e n text h =
       let right = responses_right s earlier told in
-      let is = publication_by s earlier rules right number f e n text (due s kept) refl h in
-      all_map before before kept.publications (kept.publications + 1) texts (text ∷ texts) (standing_behind s kept (line.Published number f e n text)) (λ st q. record { known = q.known; shows = shown_behind_true s earlier rules right number f e n text st texts is q (f == st.family) refl }) kept.standings t
+      let is = publication_by shows s earlier rules right number f e n text (due s kept) refl h in
+      all_map before before kept.publications (kept.publications + 1) texts (text ∷ texts) (standing_behind s kept (line.Published number f e n text)) (λ st q. record { known = q.known; shows = shown_behind_true shows s earlier rules right number f e n text st texts is q (f == st.family) refl }) kept.standings t
 
   ended_board : (number e n : ℕ) → Behind (line.EpochEnd number e n)
   ended_board number e n = all_map before before kept.publications (kept.publications + 1) texts ([] ∷ texts) (standing_behind s kept (line.EpochEnd number e n)) (λ st q. record { known = q.known; shows = tt }) kept.standings t
@@ -394,26 +390,26 @@ module _ (s : Script) (earlier : List Line) (rules : keeps_rules s ≡ true) (se
   line_board (line.Answered a i given) h told_now = same_board before (λ f. refl) (standing_behind s kept (line.Answered a i given)) (λ st. refl) (λ st. refl)
 
 -- the board shows of each family what the card shows
-board_true : (s : Script) (lines : List Line) → keeps_rules s ≡ true → serves s ≡ true → are_followed s lines ≡ true → are_told s lines ≡ true → BoardTrue (world_of s lines) (kept_of s lines).publications (texts_of lines) (kept_of s lines)
-board_true s [] rules served followed told = first_true (first_world s) [] all_families refl
-board_true s (l ∷ earlier) rules served followed told =
+board_true : ShowsCard → (s : Script) (lines : List Line) → keeps_rules s ≡ true → serves s ≡ true → are_followed s lines ≡ true → are_told s lines ≡ true → BoardTrue (world_of s lines) (kept_of s lines).publications (texts_of lines) (kept_of s lines)
+board_true shows s [] rules served followed told = first_true (first_world s) [] all_families refl
+board_true shows s (l ∷ earlier) rules served followed told =
     let p = and_parts (are_followed s earlier) (is_followed s (kept_of s earlier) l) followed in
     let q = and_parts (are_told s earlier) (is_told s (world_of s earlier) (kept_of s earlier) l) told in
-    line_board s earlier rules served p.0 q.0 (board_true s earlier rules served p.0 q.0) l p.1 q.1
+    line_board shows s earlier rules served p.0 q.0 (board_true shows s earlier rules served p.0 q.0) l p.1 q.1
 
 -- ---- the rule of rest
 
 unless_shown : (b x : Bool) → b ≡ true → elim b [ true ↦ true | false ↦ x ] ≡ true
 unless_shown true x h = refl
-unless_shown false x h = dead (sym h)
+unless_shown false x h = dead h
 
 shown_right : (w : World) (count : ℕ) (texts : List (List ℕ)) (changed : ℕ → ℕ) (st : Standing) (o : Option ℕ) → IsShown w count texts st.family o → is_shown_right w (λ n. text_of count n texts) changed st o ≡ true
-shown_right w count texts changed st None t = refl
-shown_right w count texts changed st (Some n) t = unless_shown (same_shown (shown_in w st.family) (Some (text_of count n texts))) (is_refusal_known changed st) t.text
+shown_right w count told changed st None t = refl
+shown_right w count told changed st (Some n) t = unless_shown (same_shown (shown_in w st.family) (Some (text_of count n told))) (is_refusal_known changed st) t.text
 
 all_right : (w : World) (count : ℕ) (texts : List (List ℕ)) (changed : ℕ → ℕ) (standings : List Standing) → AllTrue w count texts standings → list_all (is_standing_right w (λ n. text_of count n texts) changed) standings ≡ true
-all_right w count texts changed [] t = refl
-all_right w count texts changed (st ∷ rest) t = and_from (is_standing_right w (λ n. text_of count n texts) changed st) (list_all (is_standing_right w (λ n. text_of count n texts) changed) rest) (shown_right w count texts changed st st.shown t.0.shows) (all_right w count texts changed rest t.1)
+all_right w count told changed [] t = refl
+all_right w count told changed (st ∷ rest) t = and_from (is_standing_right w (λ n. text_of count n told) changed st) (list_all (is_standing_right w (λ n. text_of count n told) changed) rest) (shown_right w count told changed st st.shown t.0.shows) (all_right w count told changed rest t.1)
 
 while_quiet : (b x : Bool) → x ≡ true → elim b [ false ↦ true | true ↦ x ] ≡ true
 while_quiet false x h = refl
@@ -429,5 +425,5 @@ state_board s lines t =
     (subst (λ (x : World). BoardTrue x (kept_of s lines).publications (texts_of lines) (kept_of s lines)) (sym (state_world s lines)) t))
 
 -- at the end of each turn, and at any other place, the board shows what the card shows
-pub rest_right : (s : Script) (lines : List Line) → keeps_rules s ≡ true → serves s ≡ true → are_followed s lines ≡ true → are_told s lines ≡ true → ends_turn (due s (kept_of s lines)) ≡ true → is_rest_right (state_of s lines) (changed_in s lines) ≡ true
-rest_right s lines rules served followed told ends = rest_by (state_of s lines) (changed_in s lines) (state_board s lines (board_true s lines rules served followed told))
+pub rest_right : ShowsCard → (s : Script) (lines : List Line) → keeps_rules s ≡ true → serves s ≡ true → are_followed s lines ≡ true → are_told s lines ≡ true → ends_turn (due s (kept_of s lines)) ≡ true → is_rest_right (state_of s lines) (changed_in s lines) ≡ true
+rest_right shows s lines rules served followed told ends = rest_by (state_of s lines) (changed_in s lines) (state_board s lines (board_true shows s lines rules served followed told))

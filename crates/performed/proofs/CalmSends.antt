@@ -54,12 +54,13 @@ use Rattle.rules.specs.Work.{is_starting, read_stale, first_item, framework_work
 use Rattle.rules.specs.After.{is_raw, next_or_over, stage_of_sent, stage_of_framework, stage_of_read, stage_after, opened_behind, turn_answered, decision_of_begun, decision_at, fresh_begun, facts_of, refused_of, jobs_beside, jobs_of_actor, kept_after, kept_of}
 use Rattle.rules.specs.Due.{first_command, first_of_turn, command_by_stage, command_by_chain, due_command, with_ended, with_card, loaded, answer_of_outcome, outcome_answer, answer_of, answer_of_begun, answer_of_actor, due_answer, is_lost, event_of, event_by_stage, due}
 use Rattle.rules.specs.Rules.{is_turn_of, is_begun_at, same_event, same_answer, is_outside_raw, is_update_right, is_lost_update_right, world_failed, is_verify_of, has_verified, begun_in_turn, turn_operation, has_right_edit, has_right_verify}
+use Rattle.rules.specs.Performed.{is_sent}
 use Rattle.rules.specs.State.{world_of}
-use Rattle.rules.proofs.Performing.{due-exchange, due-failed}
-use Rattle.rules.proofs.Says.{says_of}
 use Rattle.performed.specs.Served.{is_served, serves}
 use Rattle.performed.specs.Followed.{is_given_or_refused, is_tried, follows, is_followed, are_followed}
 use Rattle.performed.specs.Told.{are_told}
+use Rattle.performed.proofs.MeasureSays.{stands_of}
+use Rattle.performed.proofs.CalmLent.{given_of, sent_of, lost_of}
 
 -- ---- the operations
 
@@ -211,9 +212,11 @@ due_calm k t = by_chain_calm k k.chain t.chain t
 
 same_ins : (c d : CommandValue) → same_command c d ≡ true → c.ins ≡ d.ins
 same_ins c d h =
-    let p = and_parts (c.class == d.class) ((c.ins == d.ins) && (c.p1 == d.p1) && (c.p2 == d.p2) && same_bytes c.body d.body && same_number c.le d.le) h in
-    let q = and_parts (c.ins == d.ins) ((c.p1 == d.p1) && (c.p2 == d.p2) && same_bytes c.body d.body && same_number c.le d.le) p.1 in
-    eqb-true c.ins d.ins q.0
+    let q5 = and_parts ((c.class == d.class) && (c.ins == d.ins) && (c.p1 == d.p1) && (c.p2 == d.p2) && same_bytes c.body d.body) (same_number c.le d.le) h in
+    let q4 = and_parts ((c.class == d.class) && (c.ins == d.ins) && (c.p1 == d.p1) && (c.p2 == d.p2)) (same_bytes c.body d.body) q5.0 in
+    let q3 = and_parts ((c.class == d.class) && (c.ins == d.ins) && (c.p1 == d.p1)) (c.p2 == d.p2) q4.0 in
+    let q2 = and_parts ((c.class == d.class) && (c.ins == d.ins)) (c.p1 == d.p1) q3.0 in
+    eqb-true c.ins d.ins (and_parts (c.class == d.class) (c.ins == d.ins) q2.0).1
 
 same_calm : (c : CommandValue) (o : Option CommandValue) → Calm o → has_value (same_command c) o ≡ true → is_calm c.ins ≡ true
 same_calm c None t h = absurd (true≢false (sym h))
@@ -221,10 +224,10 @@ same_calm c (Some d) t h = ap is_calm (same_ins c d h) ∙ t
 
 -- a command that follows is calm
 pub exchange_calm : (s : Script) (k : Kept) (a : ℕ) (c : CommandValue) (r : ResponseValue) → Sends k → is_followed s k (line.Exchange a c r) ≡ true → is_calm c.ins ≡ true
-exchange_calm s k a c r t h = same_calm c (due_command k) (due_calm k t) (and_parts (is_turn_of a k.turn) (has_value (same_command c) (due_command k)) (due-exchange s k a c r h)).1
+exchange_calm s k a c r t h = same_calm c (due_command k) (due_calm k t) (sent_of s k a c r (and_parts (is_turn_of a k.turn) (is_sent (due s k) (line.Exchange a c r)) h).1)
 
 pub failed_calm : (s : Script) (k : Kept) (a : ℕ) (c : CommandValue) (acted : Bool) → Sends k → is_followed s k (line.Failed a c acted) ≡ true → is_calm c.ins ≡ true
-failed_calm s k a c acted t h = same_calm c (due_command k) (due_calm k t) (and_parts (is_turn_of a k.turn) (has_value (same_command c) (due_command k)) (due-failed s k a c acted h)).1
+failed_calm s k a c acted t h = same_calm c (due_command k) (due_calm k t) (lost_of s k a c acted (and_parts (is_turn_of a k.turn) (is_sent (due s k) (line.Failed a c acted)) h).1)
 
 -- ---- events of the world
 
@@ -258,7 +261,7 @@ same_insertion (Arm j) Out i h = i
 same_insertion (Arm j) (Arm k) i h = i
 
 tried_insertion : (s : Script) (k : Kept) (e : WorldEvent) (d : Due) → Sends k → due s k ≡ d → is_tried e d ≡ true → is_insertion e ≡ true
-tried_insertion s k e (try_event x) t due_is h = same_insertion e x (subst Inserts (says_of s k (try_event x) due_is) (tried_by k.turn.work k.turn.stage t.work)) h
+tried_insertion s k e (try_event x) t due_is h = same_insertion e x (subst Inserts (stands_of s k (try_event x) due_is) (tried_by k.turn.work k.turn.stage t.work)) h
 tried_insertion s k e d t due_is h = absurd (true≢false (sym h))
 
 -- an event that follows is an insertion
@@ -521,7 +524,7 @@ unlike_done n published left (answer.Done m q rest) u h = true≢false u
 unlike_done n published left given u h = true≢false (sym h)
 
 given_undone : (s : Script) (k : Kept) (n : ℕ) (published : Option ℕ) (left : List ℕ) (d : Due) → serves s ≡ true → due s k ≡ d → is_given_or_refused (answer.Done n published left) d ≡ true → ⊥
-given_undone s k n published left (give x) served e h = unlike_done n published left x (subst Undone (says_of s k (give x) e) (actor_undone s k k.turn.actor served)) h
+given_undone s k n published left (give x) served e h = unlike_done n published left x (subst Undone (given_of s k x e) (actor_undone s k k.turn.actor served)) h
 given_undone s k n published left d served e h = true≢false (sym h)
 
 done_never : (s : Script) (k : Kept) (a i n : ℕ) (published : Option ℕ) (left : List ℕ) → serves s ≡ true → is_followed s k (line.Answered a i (answer.Done n published left)) ≡ true → ⊥
