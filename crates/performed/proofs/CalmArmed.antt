@@ -15,16 +15,16 @@ use Rattle.card_model.specs.declared.world.PinState.{PinState}
 use Rattle.card_model.specs.declared.world.ChannelState.{ChannelState}
 use Rattle.card_model.specs.declared.world.Change.{Change}
 use Rattle.card_model.specs.declared.world.CardState.{CardState}
-use Rattle.card_model.specs.Card.{application_id, first_armed, application_named, current_file, current_place, record_at, channel_place, key_place}
+use Rattle.card_model.specs.Card.{application_id, first_armed, application_named, current_file, current_place, record_at, channel_place}
 use Rattle.card_model.specs.Instructions.{instruction_of, is_get_response}
-use Rattle.card_model.specs.Answers.{refuses, with_waiting, unless_refused, succeeds, wanted_le, le_of, parameters}
-use Rattle.card_model.specs.Select.{is_select_length, selected_ids, parameters_answer, selection_answer, select_found, select_application, select_ids, select_row}
+use Rattle.card_model.specs.Answers.{refuses, with_waiting, unless_refused, succeeds, le_of, parameters}
+use Rattle.card_model.specs.Select.{is_select_length, selected_ids, selection_answer, select_found, select_application, select_ids, select_row}
 use Rattle.card_model.specs.GetResponse.{has_waiting_on, without_waiting, fetch_waiting, get_waiting, get_response_row}
 use Rattle.card_model.specs.Read.{read_bytes, read_record, read_part, read_refusal, read_found, read_binary_row, read_record_row}
 use Rattle.card_model.specs.Update.{with_part, with_file_at, update_refusal, update_found, update_at, update_binary_row, update_record_row}
 use Rattle.card_model.specs.Verify.{verify_found, verify_at, verify_row}
-use Rattle.card_model.specs.Channels.{free_number, open_number, open_with_le, open_channel, close_place, close_channel, manage_channel_row}
-use Rattle.card_model.specs.Toolkit.{status_row, terminal_profile_row, fetch_with_le, fetch_armed, fetch_first, fetch_row, terminal_response_row}
+use Rattle.card_model.specs.Channels.{open_number, open_with_le, close_place, manage_channel_row}
+use Rattle.card_model.specs.Toolkit.{status_row, terminal_profile_row, fetch_armed, fetch_first, fetch_row, terminal_response_row}
 use Rattle.card_model.specs.Step.{on_row, on_kind, on_channel, on_place, on_class, on_card}
 
 -- nothing is armed on the card of an outcome

@@ -1,6 +1,6 @@
 -- Over a script that is served a card is inside while an epoch lives, and then its basic channel alone is open; nobody holds a channel.
-use Rattle.std.proofs.Common.{◌≡◌, inl, inr, ℕ, zero, suc, ◌==◌, ◌&&◌, ◌||◌, not, Bool, true, false, if◌then◌else◌, Option, Some, None, List, [], ◌∷◌, length, refl, ap, sym, ◌∙◌, subst, arith, true≢false}
-use Rattle.std.specs.Prelude.{slice_get, slice_set, nat_lt, option_and_then, is_some, is_none}
+use Rattle.std.proofs.Common.{◌≡◌, inl, inr, ℕ, zero, suc, ◌||◌, not, Bool, true, false, if◌then◌else◌, Option, Some, None, List, [], ◌∷◌, length, refl, ap, sym, ◌∙◌, arith, true≢false}
+use Rattle.std.specs.Prelude.{slice_get, nat_lt, option_and_then, is_some, is_none}
 use Rattle.std.proofs.lemmas.Bool.{and_parts, eq-eqb, not-true}
 use Rattle.apdu.specs.Values.{CommandValue, ResponseValue}
 use Rattle.apdu.specs.Words.{has_value}
@@ -11,7 +11,7 @@ use Rattle.card_model.specs.declared.world.WorldEvent.{WorldEvent}
 use Rattle.card_model.specs.declared.world.WorldEvent.TheVariants.{Arm, Out, Insert}
 use Rattle.card_model.specs.Slot.{insert_refusal, refusal_of}
 use Rattle.card_model.specs.Step.{on_card, card_inside, step, reset_card, inserted, after_event, reset_in, after_reset}
-use Rattle.card_effects.specs.Numbers.{numbers, KeepsNumbers, AddsNumber, DropsNumber, ChangesNumbers}
+use Rattle.card_effects.specs.Numbers.{numbers, ChangesNumbers}
 use Rattle.card_effects.proofs.Numbers.{numbers_effect}
 use Rattle.card_effects.proofs.Effects.{effect}
 use Rattle.script_reader.specs.declared.types.Script.{Script}
@@ -29,7 +29,7 @@ use Rattle.rules.specs.declared.kept.Kept.{Kept}
 use Rattle.rules.specs.Channels.{held_numbers, ended_handles, handles_after}
 use Rattle.rules.specs.Kept.{operation_at}
 use Rattle.rules.specs.After.{facts_of, handles_given, handles_behind, kept_after, kept_of}
-use Rattle.rules.specs.Rules.{has_right_response, has_right_fault, is_failing, next_fault, open_numbers, are_channels_right}
+use Rattle.rules.specs.Rules.{is_failing, next_fault, open_numbers, are_channels_right}
 use Rattle.rules.specs.State.{world_after, world_of}
 use Rattle.performed.specs.Served.{is_served, serves}
 use Rattle.performed.specs.Followed.{is_followed, are_followed}

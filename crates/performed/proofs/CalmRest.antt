@@ -1,11 +1,11 @@
 -- Over a script that is served the board shows of each family what the card shows: no file changes once a card is inside.
-use Rattle.std.proofs.Common.{◌≡◌, ◌≤◌, ℕ, zero, suc, ◌+◌, ◌-◌, ◌==◌, ◌&&◌, ◌||◌, not, Bool, true, false, if◌then◌else◌, Option, Some, None, List, [], ◌∷◌, map, refl, ap, sym, ◌∙◌, subst, arith, true≢false}
-use Rattle.std.specs.Prelude.{slice_get, slice_set, unwrap_or, option_and_then, is_some, is_none, nat_lt}
+use Rattle.std.proofs.Common.{◌≡◌, ◌≤◌, ℕ, zero, suc, ◌+◌, ◌-◌, ◌==◌, ◌&&◌, ◌||◌, Bool, true, false, if◌then◌else◌, Option, Some, None, List, [], ◌∷◌, map, refl, ap, sym, ◌∙◌, subst, arith, true≢false}
+use Rattle.std.specs.Prelude.{slice_get, slice_set, unwrap_or, option_and_then, is_some, is_none}
 use Rattle.std.specs.List.{list_all}
-use Rattle.std.proofs.lemmas.Bool.{and_parts, and_from, eqb-true, cases_Bool}
+use Rattle.std.proofs.lemmas.Bool.{and_parts, and_from, eqb-true}
 use Rattle.apdu.specs.Values.{CommandValue, ResponseValue}
-use Rattle.apdu.specs.Words.{is_one_of, is_empty, has_value, same_bytes}
-use Rattle.apdu.specs.Apdu.{is_update_ins, update_record_ins, update_binary_ins}
+use Rattle.apdu.specs.Words.{is_one_of, is_empty, same_bytes}
+use Rattle.apdu.specs.Apdu.{is_update_ins}
 use Rattle.card_model.specs.declared.world.Fault.{Fault}
 use Rattle.card_model.specs.declared.world.FileState.{FileState}
 use Rattle.card_model.specs.declared.world.Change.{Change}
@@ -14,7 +14,7 @@ use Rattle.card_model.specs.declared.world.World.{World}
 use Rattle.card_model.specs.declared.world.WorldEvent.{WorldEvent}
 use Rattle.card_model.specs.declared.world.WorldEvent.TheVariants.{Arm, Out, Insert}
 use Rattle.card_model.specs.Card.{first_armed}
-use Rattle.card_model.specs.Slot.{fault_at, acted_of, refusal_of}
+use Rattle.card_model.specs.Slot.{fault_at, refusal_of}
 use Rattle.card_model.specs.Step.{on_card, card_inside, step, step_of_card, step_of_place, reset_card, inserted, after_event, reset_in, after_reset}
 use Rattle.card_effects.specs.Effect.{Effect, quiet, refuses_select, reads_record, reads_binary, gets, selects, updates_record, updates_binary, opens, closes, hands_over}
 use Rattle.card_effects.proofs.Effects.{effect}
@@ -24,18 +24,15 @@ use Rattle.script_reader.specs.declared.types.CardSpec.{CardSpec}
 use Rattle.script_reader.specs.declared.types.Script.{Script}
 use Rattle.script_reader.specs.Rules.{keeps_rules}
 use Rattle.script_reader.specs.World.{card_of, first_world}
-use Rattle.report.specs.declared.answer.Answer.{Answer}
 use Rattle.report.specs.declared.line.Line.{Line}
 use Rattle.report.specs.declared.line.Line.TheVariants as line
 use Rattle.families.specs.Families.{all_families, shown}
 use Rattle.epoch_cache.specs.Past.{is_insertion}
-use Rattle.epoch_cache.specs.declared.cached.Touch.{Touch}
-use Rattle.loader.specs.declared.reading.RefusedReading.{RefusedReading}
 use Rattle.rules.specs.declared.due.Due.{Due}
 use Rattle.rules.specs.declared.due.Due.TheVariants.{Publish as publish}
 use Rattle.rules.specs.declared.kept.Kept.{Kept}
 use Rattle.rules.specs.declared.standing.Standing.{Standing}
-use Rattle.rules.specs.Standing.{first_standing, shown_behind, standing_after}
+use Rattle.rules.specs.Standing.{first_standing, standing_after}
 use Rattle.rules.specs.After.{facts_of, refused_of, jobs_beside, family_begun, kept_after, kept_of}
 use Rattle.rules.specs.Due.{due, kept_text}
 use Rattle.rules.specs.Performed.{ends_turn, is_published}

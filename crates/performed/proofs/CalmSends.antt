@@ -31,7 +31,7 @@ use Rattle.epoch_cache.specs.Cache.{first_missing, asks_reset, handed_refresh}
 use Rattle.loader.specs.Values.{ReadingValue}
 use Rattle.loader.specs.Reading.{reading_of, is_complete, read_by, read_number, next_read}
 use Rattle.loader.specs.Load.{selected_first, next_or_select, reading_command, is_selected, read_behind}
-use Rattle.refresher.specs.Refresh.{profile_command, select_usim, startup_command, fetch_command, owed_unless, owed_to, owed_after, owed_by}
+use Rattle.refresher.specs.Refresh.{profile_command, select_usim, startup_command, fetch_command, owed_unless, owed_to, owed_by}
 use Rattle.rules.specs.declared.due.Due.{Due}
 use Rattle.rules.specs.declared.due.Due.TheVariants.{Give as give, TryEvent as try_event}
 use Rattle.rules.specs.declared.kept.Begun.{Begun}
@@ -50,14 +50,14 @@ use Rattle.rules.specs.History.{lives_in}
 use Rattle.rules.specs.Channels.{held_numbers}
 use Rattle.rules.specs.Kept.{operations_of, operation_at, begun_of, begun_operation, operation_now, job_of}
 use Rattle.rules.specs.Standing.{first_stale}
-use Rattle.rules.specs.Work.{is_starting, read_stale, first_item, framework_work, reads_first, if_living, work_of_operation}
-use Rattle.rules.specs.After.{is_raw, next_or_over, stage_of_sent, stage_of_framework, stage_of_read, stage_after, opened_behind, turn_answered, decision_of_begun, decision_at, fresh_begun, facts_of, refused_of, jobs_beside, jobs_of_actor, kept_after, kept_of}
-use Rattle.rules.specs.Due.{first_command, first_of_turn, command_by_stage, command_by_chain, due_command, with_ended, with_card, loaded, answer_of_outcome, outcome_answer, answer_of, answer_of_begun, answer_of_actor, due_answer, is_lost, event_of, event_by_stage, due}
-use Rattle.rules.specs.Rules.{is_turn_of, is_begun_at, same_event, same_answer, is_outside_raw, is_update_right, is_lost_update_right, world_failed, is_verify_of, has_verified, begun_in_turn, turn_operation, has_right_edit, has_right_verify}
+use Rattle.rules.specs.Work.{is_starting, read_stale, first_item, framework_work, reads_first, work_of_operation}
+use Rattle.rules.specs.After.{is_raw, next_or_over, stage_of_sent, stage_after, opened_behind, turn_answered, decision_of_begun, decision_at, fresh_begun, facts_of, refused_of, jobs_beside, jobs_of_actor, kept_after, kept_of}
+use Rattle.rules.specs.Due.{first_command, first_of_turn, command_by_stage, command_by_chain, due_command, with_ended, with_card, loaded, answer_of_outcome, outcome_answer, answer_of, answer_of_begun, answer_of_actor, is_lost, event_of, event_by_stage, due}
+use Rattle.rules.specs.Rules.{is_turn_of, is_begun_at, same_event, same_answer, is_update_right, is_lost_update_right, world_failed, is_verify_of, has_verified, begun_in_turn, turn_operation, has_right_edit, has_right_verify}
 use Rattle.rules.specs.Performed.{is_sent}
 use Rattle.rules.specs.State.{world_of}
 use Rattle.performed.specs.Served.{is_served, serves}
-use Rattle.performed.specs.Followed.{is_given_or_refused, is_tried, follows, is_followed, are_followed}
+use Rattle.performed.specs.Followed.{is_given_or_refused, is_tried, is_followed, are_followed}
 use Rattle.performed.specs.Told.{are_told}
 use Rattle.performed.proofs.MeasureSays.{stands_of}
 use Rattle.performed.proofs.CalmLent.{given_of, sent_of, lost_of}
