@@ -7,3 +7,14 @@ mod ProgressBegins
 mod ProgressSound
 mod ProgressGoes
 mod ProgressMoves
+mod Counts
+mod MeasureSays
+mod MeasureShape
+mod MeasureBegun
+mod MeasureNumbers
+mod Measure
+mod CalmLent
+mod CalmSends
+mod CalmArmed
+mod CalmCards
+mod CalmRest

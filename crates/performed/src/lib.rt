@@ -2,8 +2,10 @@
 //! the contract of a function that does nothing.
 #![tactic(auto)]
 
+mod endings;
 mod progress;
 
+pub use endings::{counters_are_at_most_lines, turns_end};
 pub use progress::{
     begun_operations_do_something, marks_leave_open, nobody_moves_once_finished,
     somebody_moves_until_finished, turns_that_do_not_wait_do_something,
