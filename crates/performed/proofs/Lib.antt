@@ -1,0 +1,4 @@
+mod TurnsSays
+mod TurnsJobs
+mod Plain
+mod TurnsKept
