@@ -2,3 +2,4 @@ mod TurnsSays
 mod TurnsJobs
 mod Plain
 mod TurnsKept
+mod TurnsStale

@@ -92,10 +92,10 @@ one_less actor (ops ∷ rest) jobs new (suc i) j h at more left =
 -- ---- families that are stale
 
 -- of a line that is no event
-abbrev quiet_touch : Touch
+abbrev pub quiet_touch : Touch
 quiet_touch = record { begins = false; written = written.Nothing; refresh = None }
 
-none_renewed : (paths : List (List ℕ)) → renews_one quiet_touch paths ≡ false
+pub none_renewed : (paths : List (List ℕ)) → renews_one quiet_touch paths ≡ false
 none_renewed [] = refl
 none_renewed (path ∷ paths) = none_renewed paths
 
