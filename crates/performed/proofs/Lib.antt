@@ -3,3 +3,6 @@ mod TurnsJobs
 mod Plain
 mod TurnsKept
 mod TurnsStale
+mod TurnsPhase
+mod TurnsLoad
+mod TurnsMove

@@ -1,11 +1,11 @@
 -- An actor of a script that is served edits nothing, has no mailbox and holds nothing; it answers at most its operations, and has one left
 -- while one has begun.
 use Rattle.std.proofs.Common.{◌≡◌, ℕ, zero, suc, ◌+◌, ◌≤◌, ◌<◌, ◌==◌, ◌&&◌, Bool, true, false, if◌then◌else◌, List, [], ◌∷◌, length, not, Option, Some, None, is_some, refl, sym, ap, ◌∙◌, subst, arith, true≢false}
-use Rattle.std.specs.Prelude.{nat_lt, nat_le, option_map, slice_get, unwrap_or, replicate, is_none, map}
+use Rattle.std.specs.Prelude.{nat_lt, nat_le, option_map, slice_get, unwrap_or}
 use Rattle.std.specs.List.{list_all}
 use Rattle.std.proofs.lemmas.Bool.{and_parts, eqb-true, ltb-true, leb-true}
-use Rattle.apdu.specs.Words.{has_value, is_between, is_empty, same_number}
-use Rattle.apdu.specs.Values.{CommandValue, ResponseValue}
+use Rattle.apdu.specs.Words.{is_between, is_empty}
+use Rattle.apdu.specs.Values.{CommandValue}
 use Rattle.apdu.specs.Apdu.{is_update_ins}
 use Rattle.script_reader.specs.declared.types.Script.{Script}
 use Rattle.script_reader.specs.declared.types.Operation.{Operation}
@@ -26,16 +26,14 @@ use Rattle.rules.specs.declared.kept.Begun.{Begun}
 use Rattle.rules.specs.declared.kept.Facts.{Facts}
 use Rattle.rules.specs.declared.kept.Job.{Job}
 use Rattle.rules.specs.declared.kept.Kept.{Kept}
-use Rattle.rules.specs.Editing.{family_edit}
 use Rattle.rules.specs.Channels.{handles_after}
 use Rattle.rules.specs.Sessions.{sessions_after}
 use Rattle.rules.specs.Watching.{mailbox_after}
-use Rattle.rules.specs.Kept.{actor_count, first_job, job_of, begun_of, begun_operation, operation_at, operation_now, operations_of, nothing_kept}
-use Rattle.rules.specs.Work.{has_operations_left, waits_on}
+use Rattle.rules.specs.Kept.{actor_count, first_job, job_of, begun_of, begun_operation, operation_at, operation_now, operations_of}
+use Rattle.rules.specs.Work.{has_operations_left}
 use Rattle.rules.specs.Due.{due}
 use Rattle.rules.specs.Rules.{is_turn_of, is_begun_at}
-use Rattle.rules.specs.Performed.{begins_as}
-use Rattle.rules.specs.After.{begun_beside, begun_with, begun_exchanged, begun_failed, mailbox_behind, job_beside, edit_of, editing_sent, own_job, actor_of, handles_given, handles_behind, sessions_behind, decision_of_begun, decision_at, fresh_begun, facts_of, kept_after, kept_of}
+use Rattle.rules.specs.After.{begun_beside, begun_with, begun_exchanged, begun_failed, mailbox_behind, job_beside, edit_of, editing_sent, own_job, handles_given, handles_behind, sessions_behind, decision_of_begun, decision_at, fresh_begun, facts_of, kept_of}
 use Rattle.performed.proofs.TurnsJobs.{Before, before, behind_job, first_jobs, is_own}
 use Rattle.performed.proofs.TurnsSays.{BeginsNow, begins_now}
 use Rattle.performed.specs.Served.{is_served, serves}
@@ -44,7 +42,7 @@ use Rattle.performed.specs.Laws.{has_no_edit, IsPlainJob, ArePlainJobs, IsPlain}
 
 -- ---- the operations of a script that is served
 
-abbrev ServesAt : Option Operation → Type 0
+abbrev pub ServesAt : Option Operation → Type 0
 ServesAt None = Unit {0}
 ServesAt (Some op) = is_served op ≡ true
 
@@ -58,11 +56,11 @@ served_actor [] a i h = tt
 served_actor (ops ∷ actors) zero i h = served_in ops i (and_parts (list_all is_served ops) (list_all (list_all is_served) actors) h).0
 served_actor (ops ∷ actors) (suc a) i h = served_actor actors a i (and_parts (list_all is_served ops) (list_all (list_all is_served) actors) h).1
 
-served_at : (s : Script) (a i : ℕ) → serves s ≡ true → ServesAt (operation_at s a i)
+pub served_at : (s : Script) (a i : ℕ) → serves s ≡ true → ServesAt (operation_at s a i)
 served_at s zero i h = tt
 served_at s (suc a) i h = served_actor s.actors a i (and_parts (list_all (list_all is_served) s.actors) (is_empty s.faults) h).0
 
-served_now : (s : Script) (a : ℕ) (o : Option Begun) → serves s ≡ true → ServesAt (begun_operation s a o)
+pub served_now : (s : Script) (a : ℕ) (o : Option Begun) → serves s ≡ true → ServesAt (begun_operation s a o)
 served_now s a None h = tt
 served_now s a (Some b) h = served_at s a b.index h
 

@@ -8,7 +8,7 @@ use Rattle.script_reader.specs.declared.types.Script.{Script}
 use Rattle.report.specs.declared.line.Line.{Line}
 use Rattle.rules.specs.declared.kept.Job.{Job}
 use Rattle.rules.specs.declared.kept.Kept.{Kept}
-use Rattle.rules.specs.Kept.{first_job, changed_at, change_at}
+use Rattle.rules.specs.Kept.{first_job, changed_at}
 use Rattle.rules.specs.After.{job_beside, jobs_beside, own_job, actor_of, jobs_of_actor, decision_at, facts_of, kept_after}
 
 -- ---- an item is written over

@@ -1,9 +1,7 @@
 -- What no line takes back: events and answers, and, but for an event, what is current of the families. An event, and an answer, go further.
-use Rattle.std.proofs.Common.{◌≡◌, ◌⊎◌, inl, inr, ℕ, zero, suc, ◌+◌, ◌-◌, ◌≤◌, ◌<◌, ◌==◌, ◌&&◌, ◌||◌, Bool, true, false, if◌then◌else◌, List, [], ◌∷◌, length, Option, Some, None, is_some, refl, sym, ap, ◌∙◌, subst, arith, true≢false}
+use Rattle.std.proofs.Common.{◌≡◌, ◌⊎◌, inl, inr, ℕ, zero, suc, ◌+◌, ◌≤◌, ◌<◌, ◌==◌, ◌&&◌, Bool, true, false, if◌then◌else◌, List, [], ◌∷◌, length, Option, Some, None, is_some, refl, sym, ap, ◌∙◌, subst, arith, true≢false}
 use Rattle.std.specs.Prelude.{nat_lt, option_map, slice_get, unwrap_or, map}
-use Rattle.std.specs.List.{list_any}
 use Rattle.std.proofs.lemmas.Bool.{and_parts, and_right, ltb-true, ltb-false}
-use Rattle.std.proofs.lemmas.Option.{slice_get-map}
 use Rattle.apdu.specs.Words.{has_value}
 use Rattle.script_reader.specs.declared.types.Script.{Script}
 use Rattle.script_reader.specs.declared.types.Operation.{Operation}
@@ -12,11 +10,10 @@ use Rattle.report.specs.declared.line.Line.{Line}
 use Rattle.report.specs.declared.line.Line.TheVariants as line
 use Rattle.epoch_cache.specs.declared.cached.Touch.{Touch}
 use Rattle.epoch_cache.specs.declared.cached.Written.TheVariants as written
-use Rattle.epoch_cache.specs.Cache.{is_renewed, renews_one}
+use Rattle.epoch_cache.specs.Cache.{renews_one}
 use Rattle.families.specs.Families.{family_paths}
 use Rattle.loader.specs.declared.reading.RefusedReading.{RefusedReading}
 use Rattle.epoch_cache.specs.Past.{counted}
-use Rattle.rules.specs.declared.kept.Begun.{Begun}
 use Rattle.rules.specs.declared.kept.Job.{Job}
 use Rattle.rules.specs.declared.kept.Kept.{Kept}
 use Rattle.rules.specs.declared.standing.Standing.{Standing}
@@ -25,9 +22,9 @@ use Rattle.rules.specs.Standing.{settled_by, unless_settled, refused_in, standin
 use Rattle.rules.specs.Kept.{first_job, job_of, begun_of, operations_of}
 use Rattle.rules.specs.Due.{due}
 use Rattle.rules.specs.Rules.{is_turn_of, is_begun_at}
-use Rattle.rules.specs.After.{job_beside, jobs_beside, own_job, actor_of, jobs_of_actor, decision_at, facts_of, family_begun, refused_of, kept_after}
+use Rattle.rules.specs.After.{job_beside, jobs_beside, own_job, decision_at, facts_of, family_begun, refused_of, kept_after}
 use Rattle.performed.proofs.TurnsJobs.{is_own, behind_job, job_behind}
-use Rattle.performed.proofs.Plain.{Keeps, KeepsJob, begun_some}
+use Rattle.performed.proofs.Plain.{Keeps, begun_some}
 use Rattle.performed.specs.Measure.{one_if}
 use Rattle.performed.specs.Followed.{is_followed, is_given_or_refused}
 use Rattle.performed.specs.Progress.{unanswered, operations_left, stale_count, Moves}

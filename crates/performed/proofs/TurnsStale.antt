@@ -1,11 +1,10 @@
 -- A family is stale since an event so far; where all its paths are current, events came behind that one. So its publication ends that.
-use Rattle.std.proofs.Common.{◌≡◌, ◌⊎◌, inl, inr, ℕ, zero, suc, ◌+◌, ◌-◌, ◌%◌, ◌≤◌, ◌<◌, ◌==◌, ◌&&◌, ◌||◌, not, Bool, true, false, if◌then◌else◌, List, [], ◌∷◌, length, Option, Some, None, is_some, refl, sym, ap, ◌∙◌, subst, arith, true≢false}
-use Rattle.std.specs.Prelude.{nat_lt, option_map, option_and_then, map, filter, find}
-use Rattle.std.specs.List.{list_any, list_all}
+use Rattle.std.proofs.Common.{◌≡◌, ◌⊎◌, inl, inr, ℕ, ◌+◌, ◌-◌, ◌%◌, ◌≤◌, ◌<◌, ◌==◌, ◌&&◌, ◌||◌, not, Bool, true, false, if◌then◌else◌, List, [], ◌∷◌, Option, Some, None, is_some, refl, sym, ap, ◌∙◌, subst, arith, true≢false}
+use Rattle.std.specs.Prelude.{nat_lt, option_map, option_and_then, map, find}
 use Rattle.std.specs.Cmp.Lexicographic.{same_text}
 use Rattle.std.proofs.lemmas.Bool.{and_parts, and_left, and_right, eqb-true, lt-ltb}
 use Rattle.apdu.specs.Values.{CommandValue, ResponseValue}
-use Rattle.apdu.specs.Words.{has_value, is_one_of, same_bytes, same_number}
+use Rattle.apdu.specs.Words.{has_value, same_bytes, same_number}
 use Rattle.apdu.specs.Apdu.{same_command, with_le, le_of_byte, select_ins, get_response_ins, fetch_ins, update_binary_ins, update_record_ins, is_update_ins, is_read_ins, is_success, has_more}
 use Rattle.refresh_cmd.specs.Values.{ProactiveValue}
 use Rattle.refresh_cmd.specs.Proactive.{read_proactive}
@@ -16,12 +15,11 @@ use Rattle.report.specs.declared.line.Line.TheVariants as line
 use Rattle.families.specs.Families.{family_paths, all_families}
 use Rattle.link.specs.declared.chain.Chain.{Chain}
 use Rattle.link.specs.declared.chain.Final.{Final}
-use Rattle.link.specs.Commands.{continued, chain_count, first_of, chain_first, get_response_for, follow_up, asks_more, chain_after, final_after, is_basic_select, is_path_select, is_reading_select, file_not_found, named_path}
+use Rattle.link.specs.Commands.{chain_count, first_of, chain_first, get_response_for, follow_up, asks_more, chain_after, final_after, is_basic_select, is_path_select, is_reading_select, file_not_found, named_path}
 use Rattle.epoch_cache.specs.declared.cached.CachedFile.{CachedFile}
 use Rattle.epoch_cache.specs.declared.cached.Touch.{Touch}
-use Rattle.epoch_cache.specs.declared.cached.Written.{Written}
 use Rattle.epoch_cache.specs.declared.cached.Written.TheVariants as written
-use Rattle.epoch_cache.specs.Cache.{refresh_of, handed_refresh, asks_reset, is_refreshed, is_moved_by, is_update, is_row_update, written_by, is_raw_write, touch_exchanged, is_moved, is_renewed, renews_one, is_of, is_current, all_current, forgotten, with_completed, written_files, files_exchanged}
+use Rattle.epoch_cache.specs.Cache.{refresh_of, handed_refresh, asks_reset, is_refreshed, is_moved_by, is_update, is_row_update, written_by, is_raw_write, touch_exchanged, is_moved, is_renewed, renews_one, is_of, is_current, all_current, forgotten, with_completed, written_files}
 use Rattle.loader.specs.Values.{ReadingValue}
 use Rattle.loader.specs.declared.reading.RefusedReading.{RefusedReading}
 use Rattle.loader.specs.Reading.{reading_at, is_basic_read, begun, further, reading_after, no_file, file_of_complete, tells_no_file, completed_by}
@@ -368,7 +366,7 @@ module _ (n e : ℕ) (text : List ℕ) (k : Kept) (event : ℕ) (refused : Optio
       by_renewal true q = absurd (true≢false q)
       by_renewal false q = ap (λ (o : Option ℕ). one_if (is_some o)) gone
 
-  all_settled : (sts : List Standing) → AreTimely k.history.events k.files sts → all_current k.files (family_paths g) ≡ true → first_stale sts ≡ Some g → stale_count (map published sts) < stale_count sts
+  pub all_settled : (sts : List Standing) → AreTimely k.history.events k.files sts → all_current k.files (family_paths g) ≡ true → first_stale sts ≡ Some g → stale_count (map published sts) < stale_count sts
   all_settled [] t c h = absurd (cc)
   all_settled (st ∷ sts) t c h = by_stale st.stale refl h (λ q. all_settled sts t.1 c q)
     where

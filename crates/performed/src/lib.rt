@@ -4,4 +4,4 @@
 
 mod turns;
 
-pub use turns::stays_plain;
+pub use turns::{stays_plain, turns_move};
