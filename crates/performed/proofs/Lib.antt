@@ -6,3 +6,14 @@ mod TurnsStale
 mod TurnsPhase
 mod TurnsLoad
 mod TurnsMove
+mod Counts
+mod MeasureSays
+mod MeasureShape
+mod MeasureBegun
+mod MeasureNumbers
+mod Measure
+mod CalmLent
+mod CalmSends
+mod CalmArmed
+mod CalmCards
+mod CalmRest

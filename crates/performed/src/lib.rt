@@ -2,6 +2,8 @@
 //! the contract of a function that does nothing.
 #![tactic(auto)]
 
+mod endings;
 mod turns;
 
+pub use endings::{counters_are_at_most_lines, turns_end};
 pub use turns::{stays_plain, turns_move};
