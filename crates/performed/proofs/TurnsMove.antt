@@ -6,10 +6,11 @@ use Rattle.script_reader.specs.declared.types.Script.{Script}
 use Rattle.report.specs.declared.line.Line.{Line}
 use Rattle.report.specs.declared.line.Line.TheVariants as line
 use Rattle.rules.specs.declared.kept.Kept.{Kept}
+use Rattle.rules.specs.History.{is_event}
 use Rattle.rules.specs.Work.{is_idle}
 use Rattle.rules.specs.Due.{due, due_answer}
 use Rattle.rules.specs.Rules.{is_turn_of}
-use Rattle.rules.specs.Performed.{ends_turn, is_refusal_told}
+use Rattle.rules.specs.Performed.{ends_turn, begins_as, is_refusal_told}
 use Rattle.rules.specs.After.{is_mark, kept_after, kept_of}
 use Rattle.performed.specs.Served.{serves}
 use Rattle.performed.specs.Followed.{are_followed, is_followed}
@@ -81,23 +82,41 @@ mark_publishes s serving earlier (suc b) number f e n text h =
     told (publication_told s serving earlier (suc b) k (suc b) number f e n text (record { ended = refl; refused = refl }) loads refl)
 
 module _ (s : Script) (serving : serves s ≡ true) (earlier : List Line) (a : ℕ) where
-  -- a line behind the mark
-  from_mark : (l : Line) → is_mark l ≡ false → is_followed s (behind s earlier a []) l ≡ true → are_followed s (line.Turn a ∷ earlier) ≡ true → Phase s earlier a (l ∷ [])
-  from_mark (line.Turn x) u h f = absurd (true≢false u)
-  from_mark (line.Begin x i) u h f =
-      let p = and_parts (is_turn_of x (behind s earlier a []).turn) _ h in
-      begun i (ap (λ (n : ℕ). line.Begin n i ∷ []) (sym (eqb-true a x p.0)))
-  from_mark (line.Published number g e n text) u h f = mark_publishes s serving earlier a number g e n text h
-  from_mark (line.EpochEnd number e n) u h f = absurd (end_stands s (behind s earlier a []) number e n h refl)
-  from_mark (line.Refused g n) u h f = absurd (refusal_stands s (behind s earlier a []) g n (and_parts (is_turn_of 0 (behind s earlier a []).turn) (is_refusal_told g n (due s (behind s earlier a []))) h).1 refl)
-  from_mark (line.Answered x op given) u h f = moves_now s serving earlier a (line.Answered x op given) [] (answer_moves s (behind s earlier a []) x op given h (keeps s (line.Turn a ∷ earlier) serving f))
-  from_mark (line.Exchange x c r) u h f = moves_now s serving earlier a (line.Exchange x c r) [] (event_moves s (behind s earlier a []) (line.Exchange x c r) refl)
-  from_mark (line.Failed x c d) u h f = moves_now s serving earlier a (line.Failed x c d) [] (event_moves s (behind s earlier a []) (line.Failed x c d) refl)
-  from_mark (line.Reset x) u h f = moves_now s serving earlier a (line.Reset x) [] (event_moves s (behind s earlier a []) (line.Reset x) refl)
-  from_mark (line.ResetFailed x) u h f = moves_now s serving earlier a (line.ResetFailed x) [] (event_moves s (behind s earlier a []) (line.ResetFailed x) refl)
-  from_mark (line.World x e) u h f = moves_now s serving earlier a (line.World x e) [] (event_moves s (behind s earlier a []) (line.World x e) refl)
+  -- a line behind those that moved nothing, given what comes of a begin and of a publication
+  module _ (added : List Line) (calm : IsCalm (behind s earlier a added)) where
+    abbrev now : Kept
+    now = behind s earlier a added
 
-  -- a line behind the begin
+    refusal_told : (g n : ℕ) → is_followed s now (line.Refused g n) ≡ true → ⊥
+    refusal_told g n h = refusal_stands s now g n (and_parts (is_turn_of 0 now.turn) (is_refusal_told g n (due s now)) h).1 calm.refused
+
+    event : (l : Line) → is_event l ≡ true → Phase s earlier a (l ∷ added)
+    event l h = moves_now s serving earlier a l added (event_moves s now l h)
+
+    module _ (begins : (x i : ℕ) → is_followed s now (line.Begin x i) ≡ true → Phase s earlier a (line.Begin x i ∷ added)) (publishes : (number f e n : ℕ) (text : List ℕ) → is_followed s now (line.Published number f e n text) ≡ true → Phase s earlier a (line.Published number f e n text ∷ added)) where
+      from : (l : Line) → is_mark l ≡ false → is_followed s now l ≡ true → are_followed s (added ++ line.Turn a ∷ earlier) ≡ true → Phase s earlier a (l ∷ added)
+      from (line.Turn x) u h f = absurd (true≢false u)
+      from (line.Begin x i) u h f = begins x i h
+      from (line.Published number g e n text) u h f = publishes number g e n text h
+      from (line.EpochEnd number e n) u h f = absurd (end_stands s now number e n h calm.ended)
+      from (line.Refused g n) u h f = absurd (refusal_told g n h)
+      from (line.Answered x op given) u h f = moves_now s serving earlier a (line.Answered x op given) added (answer_moves s now x op given h (keeps s (added ++ line.Turn a ∷ earlier) serving f))
+      from (line.Exchange x c r) u h f = event (line.Exchange x c r) refl
+      from (line.Failed x c d) u h f = event (line.Failed x c d) refl
+      from (line.Reset x) u h f = event (line.Reset x) refl
+      from (line.ResetFailed x) u h f = event (line.ResetFailed x) refl
+      from (line.World x e) u h f = event (line.World x e) refl
+
+  -- behind the mark
+  own_begin : (x i : ℕ) → is_followed s (behind s earlier a []) (line.Begin x i) ≡ true → Phase s earlier a (line.Begin x i ∷ [])
+  own_begin x i h =
+      let p = and_parts (is_turn_of x (behind s earlier a []).turn) (begins_as i (due s (behind s earlier a []))) h in
+      begun i (ap (λ (n : ℕ). line.Begin n i ∷ []) (sym (eqb-true a x p.0)))
+
+  from_mark : (l : Line) → is_mark l ≡ false → is_followed s (behind s earlier a []) l ≡ true → are_followed s (line.Turn a ∷ earlier) ≡ true → Phase s earlier a (l ∷ [])
+  from_mark = from [] (record { ended = refl; refused = refl }) own_begin (mark_publishes s serving earlier a)
+
+  -- behind the begin
   module _ (i : ℕ) where
     abbrev front : List Line
     front = line.Begin a i ∷ []
@@ -115,45 +134,22 @@ module _ (s : Script) (serving : serves s ≡ true) (earlier : List Line) (a : �
         true≢false (sym n.begins.bare)
 
     from_begin : (l : Line) → is_mark l ≡ false → is_followed s (behind s earlier a front) l ≡ true → are_followed s (front ++ line.Turn a ∷ earlier) ≡ true → Phase s earlier a (l ∷ front)
-    from_begin (line.Turn x) u h f = absurd (true≢false u)
-    from_begin (line.Begin x j) u h f = absurd (begins_once x j h)
-    from_begin (line.Published number g e n text) u h f = begin_publishes number g e n text h
-    from_begin (line.EpochEnd number e n) u h f = absurd (end_stands s (behind s earlier a front) number e n h refl)
-    from_begin (line.Refused g n) u h f = absurd (refusal_stands s (behind s earlier a front) g n (and_parts (is_turn_of 0 (behind s earlier a front).turn) (is_refusal_told g n (due s (behind s earlier a front))) h).1 refl)
-    from_begin (line.Answered x op given) u h f = moves_now s serving earlier a (line.Answered x op given) front (answer_moves s (behind s earlier a front) x op given h (keeps s (front ++ line.Turn a ∷ earlier) serving f))
-    from_begin (line.Exchange x c r) u h f = moves_now s serving earlier a (line.Exchange x c r) front (event_moves s (behind s earlier a front) (line.Exchange x c r) refl)
-    from_begin (line.Failed x c d) u h f = moves_now s serving earlier a (line.Failed x c d) front (event_moves s (behind s earlier a front) (line.Failed x c d) refl)
-    from_begin (line.Reset x) u h f = moves_now s serving earlier a (line.Reset x) front (event_moves s (behind s earlier a front) (line.Reset x) refl)
-    from_begin (line.ResetFailed x) u h f = moves_now s serving earlier a (line.ResetFailed x) front (event_moves s (behind s earlier a front) (line.ResetFailed x) refl)
-    from_begin (line.World x e) u h f = moves_now s serving earlier a (line.World x e) front (event_moves s (behind s earlier a front) (line.World x e) refl)
+    from_begin = from front (record { ended = refl; refused = refl }) (λ x j h. absurd (begins_once x j h)) begin_publishes
 
-  -- a line behind the publication
+  -- behind the publication
   module _ (added : List Line) (t : IsTold s (behind s earlier a added)) where
-    abbrev now : Kept
-    now = behind s earlier a added
-
-    answers_first : (x j : ℕ) → is_followed s now (line.Begin x j) ≡ true → ⊥
+    answers_first : (x j : ℕ) → is_followed s (behind s earlier a added) (line.Begin x j) ≡ true → ⊥
     answers_first x j h =
-        let n : BeginsNow s now x j = begins_now s now x j h in
+        let n : BeginsNow s (behind s earlier a added) x j = begins_now s (behind s earlier a added) x j h in
         true≢false (sym t.answer ∙ ap is_some n.done.answer)
 
-    publishes_once : (number f e n : ℕ) (text : List ℕ) → is_followed s now (line.Published number f e n text) ≡ true → ⊥
+    publishes_once : (number f e n : ℕ) (text : List ℕ) → is_followed s (behind s earlier a added) (line.Published number f e n text) ≡ true → ⊥
     publishes_once number f e n text h =
-        let p : Publishes now f n = publishes s now number f e n text h in
+        let p : Publishes (behind s earlier a added) f n = publishes s (behind s earlier a added) number f e n text h in
         true≢false (sym p.free ∙ ap is_none t.published)
 
-    from_told : (l : Line) → is_mark l ≡ false → is_followed s now l ≡ true → are_followed s (added ++ line.Turn a ∷ earlier) ≡ true → Phase s earlier a (l ∷ added)
-    from_told (line.Turn x) u h f = absurd (true≢false u)
-    from_told (line.Begin x j) u h f = absurd (answers_first x j h)
-    from_told (line.Published number g e n text) u h f = absurd (publishes_once number g e n text h)
-    from_told (line.EpochEnd number e n) u h f = absurd (end_stands s now number e n h t.calm.ended)
-    from_told (line.Refused g n) u h f = absurd (refusal_stands s now g n (and_parts (is_turn_of 0 now.turn) (is_refusal_told g n (due s now)) h).1 t.calm.refused)
-    from_told (line.Answered x op given) u h f = moves_now s serving earlier a (line.Answered x op given) added (answer_moves s now x op given h (keeps s (added ++ line.Turn a ∷ earlier) serving f))
-    from_told (line.Exchange x c r) u h f = moves_now s serving earlier a (line.Exchange x c r) added (event_moves s now (line.Exchange x c r) refl)
-    from_told (line.Failed x c d) u h f = moves_now s serving earlier a (line.Failed x c d) added (event_moves s now (line.Failed x c d) refl)
-    from_told (line.Reset x) u h f = moves_now s serving earlier a (line.Reset x) added (event_moves s now (line.Reset x) refl)
-    from_told (line.ResetFailed x) u h f = moves_now s serving earlier a (line.ResetFailed x) added (event_moves s now (line.ResetFailed x) refl)
-    from_told (line.World x e) u h f = moves_now s serving earlier a (line.World x e) added (event_moves s now (line.World x e) refl)
+    from_told : (l : Line) → is_mark l ≡ false → is_followed s (behind s earlier a added) l ≡ true → are_followed s (added ++ line.Turn a ∷ earlier) ≡ true → Phase s earlier a (l ∷ added)
+    from_told = from added t.calm (λ x j h. absurd (answers_first x j h)) (λ number f e n text h. absurd (publishes_once number f e n text h))
 
   -- ---- all lines
 
