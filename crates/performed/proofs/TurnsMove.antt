@@ -15,12 +15,13 @@ use Rattle.rules.specs.After.{is_mark, kept_after, kept_of}
 use Rattle.performed.specs.Served.{serves}
 use Rattle.performed.specs.Followed.{are_followed, is_followed}
 use Rattle.performed.specs.Progress.{Moves}
-use Rattle.performed.specs.Laws.{has_no_mark, MarksMove, BeginsMove, TurnsMove}
+use Rattle.performed.specs.Laws.{has_no_mark, TurnsMove}
 use Rattle.performed.proofs.TurnsSays.{turn_done, BeginsNow, begins_now}
 use Rattle.performed.proofs.TurnsKept.{GoesOn, goes_on, then_on, first_on, both_on, event_moves, answer_moves}
 use Rattle.performed.proofs.TurnsStale.{keeps_time}
 use Rattle.performed.proofs.TurnsPhase.{Publishes, publishes, end_stands, refusal_stands, framework_moves}
 use Rattle.performed.proofs.TurnsLoad.{Loads, marked_load, begin_load, load_answered, has_job}
+use Rattle.performed.proofs.ProgressMoves.{marks_move, begins_move}
 use Rattle.performed.proofs.Plain.{keeps}
 
 -- ---- how far a turn is
@@ -175,15 +176,15 @@ module _ (s : Script) (serving : serves s ≡ true) (earlier : List Line) (a : �
 
   -- ---- its end
 
-  module _ (marks : MarksMove) (begins : BeginsMove) (idle : is_idle s (kept_of s earlier) a ≡ false) where
+  module _ (idle : is_idle s (kept_of s earlier) a ≡ false) where
     abbrev Ends : List Line → Type 0
     Ends added = are_followed s (added ++ line.Turn a ∷ earlier) ≡ true → ends_turn (due s (behind s earlier a added)) ≡ true → ⊥
 
     mark_goes_on : Ends []
-    mark_goes_on f ends = true≢false (sym ends ∙ marks s earlier a serving f idle)
+    mark_goes_on f ends = true≢false (sym ends ∙ marks_move s earlier a serving f idle)
 
     begin_goes_on : (i : ℕ) → Ends (line.Begin a i ∷ [])
-    begin_goes_on i f ends = true≢false (sym ends ∙ begins s (line.Turn a ∷ earlier) a i serving f)
+    begin_goes_on i f ends = true≢false (sym ends ∙ begins_move s (line.Turn a ∷ earlier) a i serving f)
 
     told_goes_on : (added : List Line) → IsTold s (behind s earlier a added) → Ends added
     told_goes_on added t f ends = true≢false (sym t.answer ∙ ap is_some (turn_done s (behind s earlier a added) ends).answer)
@@ -194,5 +195,5 @@ module _ (s : Script) (serving : serves s ≡ true) (earlier : List Line) (a : �
     finish added (begun i e) f ends = absurd (subst (λ (xs : List Line). Ends xs) (sym e) (begin_goes_on i) f ends)
     finish added (told t) f ends = absurd (told_goes_on added t f ends)
 
-pub turns_move_by : MarksMove → BeginsMove → TurnsMove
-turns_move_by marks begins s earlier added a serving followed unmarked idle ends = finish s serving earlier a marks begins idle added (phase s serving earlier a added followed unmarked) followed ends
+pub turns_move : TurnsMove
+turns_move s earlier added a serving followed unmarked idle ends = finish s serving earlier a idle added (phase s serving earlier a added followed unmarked) followed ends

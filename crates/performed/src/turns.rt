@@ -1,14 +1,14 @@
 // Laws of turns, each the contract of a function that does nothing.
-ghost use Rattle.performed.specs.Laws.{BeginsMove, MarksMove, StaysPlain, TurnsMove};
+ghost use Rattle.performed.specs.Laws.{StaysPlain, TurnsMove};
 
-/// An actor of a script that is served has no edit and no mailbox, holds nothing, and has answered at most 1000
+/// An actor of a script that is served edits nothing, has no mailbox, holds nothing, and has answered at most 1000
 /// operations.
-pub fn stays_plain()
+pub fn actors_stay_plain()
     ensures { StaysPlain }
 {}
 
 /// A whole turn that neither waits nor finds nothing left adds an event, answers an operation, or publishes what was
 /// stale.
-pub fn turns_move()
-    ensures { MarksMove → BeginsMove → TurnsMove }
+pub fn turns_that_do_not_wait_move()
+    ensures { TurnsMove }
 {}
