@@ -1,0 +1,6 @@
+mod TurnsSays
+mod LegalWorld
+mod LegalDue
+mod LegalScript
+mod LegalResets
+mod LegalLooks
