@@ -4,3 +4,5 @@ mod LegalDue
 mod LegalScript
 mod LegalResets
 mod LegalLooks
+mod LegalLines
+mod LegalPlaces
