@@ -87,7 +87,7 @@ turn_right moves s m lines v f e allowed =
     let k : Kept = kept_of s lines in
     let w : World = world_of s lines in
     by_actor (is_none k.turn.actor) (elim k.turn.bare [ true ↦ is_bare_turn_right m k.turn | false ↦ is_turn_done w k ])
-    (by_bare k.turn.bare (is_bare_turn_right m k.turn) (is_turn_done w k) (λ b. bare_right m k.turn allowed b (bare_idle moves s lines v f e b)) (ends_done s k e w).1.0)
+    (by_bare k.turn.bare (is_bare_turn_right m k.turn) (is_turn_done w k) (λ b. bare_right m k.turn allowed b (bare_idle moves s lines v f e b)) (ends_done s k e w).1)
 
 -- ---- snapshots
 

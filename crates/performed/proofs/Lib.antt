@@ -6,3 +6,4 @@ mod LegalResets
 mod LegalLooks
 mod LegalLines
 mod LegalPlaces
+mod Legal
