@@ -7,3 +7,9 @@ mod LegalLooks
 mod LegalLines
 mod LegalPlaces
 mod Legal
+mod Counts
+mod MeasureSays
+mod MeasureShape
+mod MeasureBegun
+mod MeasureNumbers
+mod Measure

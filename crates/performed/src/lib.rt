@@ -2,6 +2,8 @@
 //! the contract of a function that does nothing.
 #![tactic(auto)]
 
+mod endings;
 mod legality;
 
+pub use endings::{counters_are_at_most_lines, turns_end};
 pub use legality::{due_lines_are_legal, finished_runs_are_legal};
