@@ -24,6 +24,9 @@ use Rattle.performed.specs.Followed.{is_followed, are_followed}
 use Rattle.performed.specs.Told.{is_told, are_told}
 use Rattle.performed.specs.Placed.{is_turn_allowed, is_placed, are_placed}
 use Rattle.performed.specs.Laws.{LinesAreLegal, MarksMove, RunIsLegal}
+use Rattle.performed.proofs.CalmCards.{channels_right}
+use Rattle.performed.proofs.CalmRest.{rest_right}
+use Rattle.performed.proofs.CalmSends.{edits_right, verify_right}
 use Rattle.performed.proofs.LegalLines.{told_response, ends_done}
 use Rattle.performed.proofs.LegalPlaces.{known, turn_right, line_placed, snapshot_right, line_answers, line_fails}
 
@@ -56,7 +59,7 @@ state_known s lines =
 
 -- ---- the rules of edits, verifications, channels and rest
 
-pub record Others (s : Script) : Type 0 where
+record Others (s : Script) : Type 0 where
   pub edits : (earlier : List Line) (l : Line) → are_followed s (l ∷ earlier) ≡ true → are_told s (l ∷ earlier) ≡ true → has_right_edit s (world_of s earlier) (kept_of s earlier) l ≡ true
   pub verifications : (earlier : List Line) (l : Line) → are_followed s (l ∷ earlier) ≡ true → are_told s (l ∷ earlier) ≡ true → has_right_verify s (kept_of s earlier) l ≡ true
   pub channels : (lines : List Line) → are_followed s lines ≡ true → are_told s lines ≡ true → are_channels_right (world_of s lines) (kept_of s lines) ≡ true
@@ -108,7 +111,7 @@ module _ (moves : MarksMove) (shows : ShowsCard) (looks : KeptLooksBack) (s : Sc
         (line_placed moves shows looks s rules v m earlier f t (line.Turn a) h told p)
     line_known l h told p = other_known l h told p
 
-  pub lines_legal : (lines : List Line) → are_followed s lines ≡ true → are_told s lines ≡ true → are_placed s m lines ≡ true → are_legal_lines s m lines ≡ true
+  lines_legal : (lines : List Line) → are_followed s lines ≡ true → are_told s lines ≡ true → are_placed s m lines ≡ true → are_legal_lines s m lines ≡ true
   lines_legal [] f t p = refl
   lines_legal (l ∷ earlier) f t p =
       let k : Kept = kept_of s earlier in
@@ -120,20 +123,25 @@ module _ (moves : MarksMove) (shows : ShowsCard) (looks : KeptLooksBack) (s : Sc
       (subst (λ (st : State). all_pass (line_tests s m (changed_in s earlier) st l) ≡ true) (state_known s earlier) (line_known earlier qf.0 qt.0 l qf.1 qt.1 qp.1))
       (lines_legal earlier qf.0 qt.0 qp.0)
 
-  pub end_legal : (lines : List Line) → are_followed s lines ≡ true → are_told s lines ≡ true → is_turn_allowed m (kept_of s lines).turn ≡ true → ends_turn (due s (kept_of s lines)) ≡ true → is_finished s (kept_of s lines) ≡ true → is_legal_end s m lines ≡ true
+  end_legal : (lines : List Line) → are_followed s lines ≡ true → are_told s lines ≡ true → is_turn_allowed m (kept_of s lines).turn ≡ true → ends_turn (due s (kept_of s lines)) ≡ true → is_finished s (kept_of s lines) ≡ true → is_legal_end s m lines ≡ true
   end_legal lines f t allowed e finished =
       subst (λ (st : State). all_pass (end_tests s m (changed_in s lines) st) ≡ true) (state_known s lines) (end_known lines f t e allowed finished)
 
 -- ---- the laws
 
-abbrev pub AllOthers : Type 0
-AllOthers = (s : Script) → keeps_rules s ≡ true → serves s ≡ true → Others s
+others : ShowsCard → (s : Script) → keeps_rules s ≡ true → serves s ≡ true → Others s
+others shows s rules v = record {
+  edits = λ earlier l f t. edits_right s earlier l rules v f t;
+  verifications = λ earlier l f t. verify_right s earlier l rules v f t;
+  channels = λ lines f t. channels_right s lines rules v f t;
+  rest = λ lines f t e. rest_right shows s lines rules v f t e;
+}
 
-pub lines_are_legal : MarksMove → ShowsCard → KeptLooksBack → AllOthers → LinesAreLegal
-lines_are_legal moves shows looks others s m lines rules v f t p = lines_legal moves shows looks s m rules v (others s rules v) lines f t p
+pub lines_are_legal : MarksMove → ShowsCard → KeptLooksBack → LinesAreLegal
+lines_are_legal moves shows looks s m lines rules v f t p = lines_legal moves shows looks s m rules v (others shows s rules v) lines f t p
 
-pub run_is_legal : MarksMove → ShowsCard → KeptLooksBack → AllOthers → RunIsLegal
-run_is_legal moves shows looks others r rules v f t p allowed e finished =
+pub run_is_legal : MarksMove → ShowsCard → KeptLooksBack → RunIsLegal
+run_is_legal moves shows looks r rules v f t p allowed e finished =
     and_from (are_legal_lines r.script r.mode r.lines) (is_legal_end r.script r.mode r.lines)
-    (lines_legal moves shows looks r.script r.mode rules v (others r.script rules v) r.lines f t p)
-    (end_legal moves shows looks r.script r.mode rules v (others r.script rules v) r.lines f t allowed e finished)
+    (lines_are_legal moves shows looks r.script r.mode r.lines rules v f t p)
+    (end_legal moves shows looks r.script r.mode rules v (others shows r.script rules v) r.lines f t allowed e finished)

@@ -1,12 +1,19 @@
-// Laws of legality, each the contract of a function that does nothing.
+// Laws of legality, each the contract of a function that does nothing but to call the laws that it takes.
+use rules::{due_is_shown, kept_looks_back};
 ghost use Rattle.performed.specs.Laws.{LinesAreLegal, RunIsLegal};
 
 /// Lines that are due break no rule, where they show what the slot gave, and where their turns are those of the mode.
 pub fn due_lines_are_legal()
     ensures { LinesAreLegal }
-{}
+{
+    due_is_shown();
+    kept_looks_back();
+}
 
 /// The report of a run that is finished is legal, where nothing is due in its last turn.
 pub fn finished_runs_are_legal()
     ensures { RunIsLegal }
-{}
+{
+    due_is_shown();
+    kept_looks_back();
+}
