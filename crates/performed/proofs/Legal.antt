@@ -1,5 +1,5 @@
 -- Lines that are due are legal, and so is the report of a run that is finished.
-use Rattle.std.proofs.Common.{◌≡◌, ℕ, ◌&&◌, not, Bool, true, false, List, [], ◌∷◌, refl, sym, ap, ◌∙◌, subst, true≢false}
+use Rattle.std.proofs.Common.{◌≡◌, ℕ, ◌&&◌, not, true, List, [], ◌∷◌, refl, sym, ap, ◌∙◌, subst}
 use Rattle.std.specs.Prelude.{nat_le}
 use Rattle.std.proofs.lemmas.Bool.{and_parts, and_from}
 use Rattle.card_model.specs.declared.world.World.{World}
@@ -8,17 +8,16 @@ use Rattle.script_reader.specs.Rules.{keeps_rules}
 use Rattle.report.specs.declared.line.Line.{Line}
 use Rattle.report.specs.declared.line.Line.TheVariants as line
 use Rattle.report.specs.declared.line.Mode.{Mode}
-use Rattle.report.specs.declared.lines.Report.{Report}
 use Rattle.rules.specs.declared.kept.Kept.{Kept}
 use Rattle.rules.specs.Kept.{actor_count}
 use Rattle.rules.specs.Work.{is_finished}
-use Rattle.rules.specs.After.{is_mark, kept_after, kept_of}
+use Rattle.rules.specs.After.{kept_after, kept_of}
 use Rattle.rules.specs.Due.{due}
 use Rattle.rules.specs.State.{world_after, world_of, boards_after, boards_of, texts_after, texts_of, State, state_of}
 use Rattle.rules.specs.Laws.{ShowsCard, KeptLooksBack}
-use Rattle.rules.specs.Legal.{Tests, all_pass, mark_tests, other_tests, line_tests, end_tests, changed_in, is_legal_line, are_legal_lines, is_legal_end, legal}
+use Rattle.rules.specs.Legal.{Tests, all_pass, mark_tests, other_tests, line_tests, end_tests, changed_in, is_legal_line, are_legal_lines, is_legal_end}
 use Rattle.rules.specs.Performed.{ends_turn}
-use Rattle.rules.specs.Rules.{has_right_response, has_right_snapshot, has_right_edit, are_channels_right, is_rest_right, has_right_answer, are_answers_given, has_right_verify, is_turn_right, has_right_place, has_right_fault, is_end_published}
+use Rattle.rules.specs.Rules.{has_right_edit, are_channels_right, is_rest_right, has_right_verify, has_right_place}
 use Rattle.performed.specs.Served.{serves}
 use Rattle.performed.specs.Followed.{is_followed, are_followed}
 use Rattle.performed.specs.Told.{is_told, are_told}

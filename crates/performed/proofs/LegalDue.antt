@@ -1,7 +1,7 @@
 -- A line that does what is due, and shows what the slot gave, is what is due.
-use Rattle.std.proofs.Common.{◌≡◌, ℕ, ◌==◌, ◌&&◌, not, Bool, true, false, Option, Some, None, List, [], ◌∷◌, refl, sym, ap, ◌∙◌, subst, true≢false}
+use Rattle.std.proofs.Common.{◌≡◌, ◌&&◌, not, true, Option, refl, sym, ap, subst, true≢false}
 use Rattle.std.specs.Prelude.{is_none, nat_le}
-use Rattle.std.proofs.lemmas.Bool.{and_parts, and_from, eqb-true, eq-eqb}
+use Rattle.std.proofs.lemmas.Bool.{and_parts, and_from, eqb-true}
 use Rattle.card_model.specs.declared.world.World.{World}
 use Rattle.card_model.specs.declared.world.WorldEvent.{WorldEvent}
 use Rattle.card_model.specs.declared.world.WorldEvent.TheVariants.{Arm, Out, Insert}
@@ -19,7 +19,7 @@ use Rattle.rules.specs.Due.{due, tried_event}
 use Rattle.rules.specs.Rules.{is_turn_of, is_begun_at, same_event}
 use Rattle.rules.specs.Performed.{ends_turn, happens_as, is_given, does}
 use Rattle.performed.proofs.TurnsSays.{says_of}
-use Rattle.performed.specs.Followed.{is_given_or_refused, is_tried, follows, is_followed}
+use Rattle.performed.specs.Followed.{is_given_or_refused, is_tried, is_followed}
 use Rattle.performed.specs.Told.{is_refusal_told, is_told}
 
 same_event_is : (a b : WorldEvent) → same_event a b ≡ true → a ≡ b

@@ -1,51 +1,31 @@
 -- A line that is due breaks no rule; neither does the turn that ends where nothing is due.
-use Rattle.std.proofs.Common.{◌≡◌, ℕ, zero, suc, ◌+◌, ◌==◌, ◌&&◌, ◌||◌, not, Bool, true, false, if◌then◌else◌, Option, Some, None, List, [], ◌∷◌, refl, sym, ap, ◌∙◌, subst, true≢false, arith}
-use Rattle.std.specs.Prelude.{is_none, is_some, nat_le, nat_lt}
+use Rattle.std.proofs.Common.{◌≡◌, ℕ, ◌+◌, ◌==◌, ◌&&◌, ◌||◌, Bool, true, false, if◌then◌else◌, Option, Some, None, List, [], ◌∷◌, refl, sym, ap, ◌∙◌, subst, true≢false}
+use Rattle.std.specs.Prelude.{is_none, is_some}
 use Rattle.std.proofs.lemmas.Bool.{and_parts, and_from, eqb-true, eq-eqb}
 use Rattle.apdu.specs.Values.{CommandValue, ResponseValue}
-use Rattle.apdu.specs.Words.{has_value, same_bytes, same_number, is_one_of}
+use Rattle.apdu.specs.Words.{has_value, same_bytes, same_number}
 use Rattle.apdu.specs.Apdu.{same_command}
-use Rattle.card_effects.proofs.Same.{same_bytes_is}
-use Rattle.card_model.specs.declared.world.CardState.{CardState}
 use Rattle.card_model.specs.declared.world.World.{World}
 use Rattle.card_model.specs.declared.world.WorldEvent.{WorldEvent}
 use Rattle.card_model.specs.Slot.{refusal_of}
-use Rattle.card_model.specs.Step.{card_inside}
 use Rattle.script_reader.specs.declared.types.Script.{Script}
-use Rattle.script_reader.specs.Rules.{keeps_rules}
 use Rattle.report.specs.declared.answer.Answer.{Answer}
 use Rattle.report.specs.declared.answer.Answer.TheVariants as answer
 use Rattle.report.specs.declared.line.Line.{Line}
 use Rattle.report.specs.declared.line.Line.TheVariants as line
-use Rattle.report.specs.declared.line.Mode.{Mode}
-use Rattle.report.specs.declared.line.Mode.TheVariants.{Replay, Run}
-use Rattle.families.specs.Families.{all_families}
-use Rattle.link.specs.declared.chain.Final.{Final}
 use Rattle.rules.specs.declared.due.Due.{Due}
 use Rattle.rules.specs.declared.due.Due.TheVariants.{TellEnd as tell_end, Send as send, ResetCard as reset_card, TryEvent as try_event, TellRefusal as tell_refusal, Publish as publish, Give as give}
-use Rattle.rules.specs.declared.kept.Job.{Job}
 use Rattle.rules.specs.declared.kept.Kept.{Kept}
-use Rattle.rules.specs.declared.kept.Turn.{Turn}
-use Rattle.rules.specs.Kept.{actor_count, job_of, begun_of}
-use Rattle.rules.specs.Work.{is_idle, is_finished, has_operations_left}
-use Rattle.rules.specs.After.{is_mark, kept_of}
-use Rattle.rules.specs.State.{world_of, shown_in, shown_on, same_shown, boards_of, texts_of, board_after, State}
-use Rattle.rules.specs.Due.{due, due_command, is_reset_due, due_event, event_by, due_publication, published_by, tried_event, due_answer, slot_answer, slot_answer_by, kept_text}
+use Rattle.rules.specs.Kept.{begun_of}
+use Rattle.rules.specs.After.{kept_of}
+use Rattle.rules.specs.State.{world_of}
+use Rattle.rules.specs.Due.{due, due_command, is_reset_due, due_event, event_by, due_publication, due_answer, slot_answer, slot_answer_by, kept_text}
 use Rattle.rules.specs.Agreement.{are_responses_right}
-use Rattle.rules.specs.Laws.{ShowsCard, KeptLooksBack}
-use Rattle.rules.specs.Performed.{ends_turn, begins_as, is_sent, is_reset, happens_as, is_published, is_end_told, is_refusal_told, is_given, does}
-use Rattle.rules.specs.Rules.{is_turn_of, is_begun_at, same_event, same_answer, is_look, is_answer_among, is_answer_right, is_refusal_right, has_right_answer, are_answers_given, has_right_response, has_right_fault, has_right_snapshot, is_end_right, is_end_published, is_actor_right, is_bare_turn_right, is_turn_done, is_turn_right, is_mark_right, is_begin_right, is_command_right, is_reset_right, is_event_right, is_count_right, same_board, has_right_place}
-use Rattle.performed.specs.Served.{serves}
-use Rattle.performed.specs.Followed.{is_given_or_refused, begins_turn, is_followed, are_followed}
+use Rattle.rules.specs.Performed.{ends_turn, is_sent, is_reset, happens_as, is_published, is_end_told, is_refusal_told, is_given}
+use Rattle.rules.specs.Rules.{is_turn_of, is_begun_at, same_event, same_answer, is_look, is_answer_among, is_answer_right, is_refusal_right, are_answers_given, has_right_response, has_right_fault, is_end_right, is_end_published, is_turn_done, is_command_right, is_reset_right, is_event_right}
 use Rattle.performed.specs.Told.{is_told, are_told}
-use Rattle.performed.specs.Placed.{allows_bare, is_turn_allowed, is_placed}
-use Rattle.performed.specs.Laws.{MarksMove}
-use Rattle.performed.proofs.TurnsSays.{IsDone, says_of, turn_done, begins_now}
-use Rattle.performed.proofs.LegalWorld.{lives_inside}
-use Rattle.performed.proofs.LegalDue.{does_line}
-use Rattle.performed.proofs.LegalScript.{is_family_or_none, family_known}
-use Rattle.performed.proofs.LegalResets.{is_calm, turn_calm, resets_framework}
-use Rattle.performed.proofs.LegalLooks.{look_placed}
+use Rattle.performed.proofs.TurnsSays.{IsDone, says_of, turn_done}
+use Rattle.performed.proofs.LegalResets.{is_calm, resets_framework}
 
 -- ---- responses
 

@@ -1,5 +1,5 @@
 -- What a look shows that is due: the board behind all publications, of which the actor has seen no more.
-use Rattle.std.proofs.Common.{◌≡◌, ◌≤◌, ℕ, zero, suc, ◌+◌, ◌-◌, ◌==◌, ◌&&◌, ◌||◌, Bool, true, false, if◌then◌else◌, Option, Some, None, List, [], ◌∷◌, length, map, refl, sym, ap, ◌∙◌, subst, true≢false, arith}
+use Rattle.std.proofs.Common.{◌≡◌, ◌≤◌, ℕ, ◌+◌, ◌-◌, ◌==◌, ◌&&◌, Bool, true, false, if◌then◌else◌, Option, Some, None, List, [], ◌∷◌, length, map, refl, sym, ap, ◌∙◌, true≢false, arith}
 use Rattle.std.specs.Prelude.{filter, nat_le, option_map, slice_get, unwrap_or}
 use Rattle.std.proofs.lemmas.Bool.{and_parts, and_from, eqb-true, eq-eqb, le-leb}
 use Rattle.card_effects.proofs.Same.{same_bytes_is, same_bytes_self}
@@ -31,7 +31,7 @@ use Rattle.rules.specs.declared.kept.Outcome.{Outcome}
 use Rattle.rules.specs.declared.kept.Outcome.TheVariants as outcome
 use Rattle.rules.specs.declared.kept.Turn.{Turn}
 use Rattle.rules.specs.declared.kept.Work.{Work}
-use Rattle.rules.specs.declared.kept.Work.TheVariants.{Rests as rests, Refuses as refuses, Lacks as lacks, Sends as sends, Reads as reads, Writes as writes, Resets as resets, Happens as happens}
+use Rattle.rules.specs.declared.kept.Work.TheVariants.{Refuses as refuses, Lacks as lacks}
 use Rattle.rules.specs.declared.standing.Standing.{Standing}
 use Rattle.rules.specs.Kept.{first_job, job_of, begun_of, operation_now}
 use Rattle.rules.specs.Channels.{handle_of, is_raw_ins}
@@ -39,10 +39,10 @@ use Rattle.rules.specs.Sessions.{has_session}
 use Rattle.rules.specs.Watching.{notices_of}
 use Rattle.rules.specs.Standing.{shown_behind, standing_after, board_of}
 use Rattle.rules.specs.After.{is_publication, facts_of, refused_of, family_begun, jobs_beside, kept_of}
-use Rattle.rules.specs.State.{boards_of, board_after, empty_board}
-use Rattle.rules.specs.Due.{answer_of_outcome, outcome_answer, with_ended, with_card, is_lost, loaded, done_publication, decided_answer, plan_refusal, planning_answer, edit_answer, on_handle, raw_on_handle, answer_of, answer_of_begun, answer_of_actor, due_answer, seen_now}
+use Rattle.rules.specs.State.{boards_of, board_after}
+use Rattle.rules.specs.Due.{answer_of_outcome, outcome_answer, with_ended, with_card, is_lost, loaded, done_publication, plan_refusal, planning_answer, edit_answer, on_handle, raw_on_handle, answer_of, answer_of_begun, answer_of_actor, due_answer, seen_now}
 use Rattle.rules.specs.LookingBack.{answers_of, publication_count, seen_before}
-use Rattle.rules.specs.Rules.{answer_code, same_answer, optional_number, same_board, is_count_right}
+use Rattle.rules.specs.Rules.{same_answer, optional_number, same_board, is_count_right}
 use Rattle.rules.specs.Laws.{KeptLooksBack}
 
 -- ---- the answer that is due

@@ -1,8 +1,8 @@
 -- Each line that is due has its place, its answer, its fault and its text right; so has the turn that ends where nothing is due.
-use Rattle.std.proofs.Common.{◌≡◌, ℕ, zero, suc, ◌+◌, ◌==◌, ◌&&◌, ◌||◌, not, Bool, true, false, if◌then◌else◌, Option, Some, None, List, [], ◌∷◌, refl, sym, ap, ◌∙◌, subst, true≢false, arith}
+use Rattle.std.proofs.Common.{◌≡◌, ℕ, suc, ◌+◌, ◌==◌, ◌&&◌, ◌||◌, not, Bool, true, false, if◌then◌else◌, Option, Some, None, List, [], ◌∷◌, refl, sym, ap, ◌∙◌, subst, true≢false, arith}
 use Rattle.std.specs.Prelude.{is_none, is_some, nat_le, nat_lt, option_and_then}
 use Rattle.std.proofs.lemmas.Bool.{and_parts, and_from, eqb-true, eq-eqb}
-use Rattle.apdu.specs.Words.{same_bytes, same_number, is_one_of}
+use Rattle.apdu.specs.Words.{same_bytes, is_one_of}
 use Rattle.card_effects.proofs.Same.{same_bytes_is}
 use Rattle.card_model.specs.declared.world.CardState.{CardState}
 use Rattle.card_model.specs.declared.world.World.{World}
@@ -11,7 +11,6 @@ use Rattle.script_reader.specs.declared.types.Operation.{Operation}
 use Rattle.script_reader.specs.declared.types.Script.{Script}
 use Rattle.script_reader.specs.Rules.{keeps_rules}
 use Rattle.report.specs.Values.{SeenValue}
-use Rattle.report.specs.declared.answer.Answer.{Answer}
 use Rattle.report.specs.declared.answer.Answer.TheVariants as answer
 use Rattle.report.specs.declared.line.Line.{Line}
 use Rattle.report.specs.declared.line.Line.TheVariants as line
@@ -22,24 +21,24 @@ use Rattle.epoch_cache.specs.Cache.{all_current}
 use Rattle.link.specs.declared.chain.Final.{Final}
 use Rattle.loader.specs.declared.reading.RefusedReading.{RefusedReading}
 use Rattle.rules.specs.declared.due.Due.{Due}
-use Rattle.rules.specs.declared.due.Due.TheVariants.{Publish as publish, Give as give, TryEvent as try_event}
+use Rattle.rules.specs.declared.due.Due.TheVariants.{Publish as publish, Give as give}
 use Rattle.rules.specs.declared.kept.Facts.{Facts}
 use Rattle.rules.specs.declared.kept.Job.{Job}
 use Rattle.rules.specs.declared.kept.Kept.{Kept}
 use Rattle.rules.specs.declared.kept.Turn.{Turn}
 use Rattle.rules.specs.Channels.{held_numbers}
 use Rattle.rules.specs.Kept.{actor_count, job_of, begun_of, operation_now}
-use Rattle.rules.specs.Work.{is_idle, is_finished, has_operations_left, waits_on}
+use Rattle.rules.specs.Work.{is_idle, is_finished, has_operations_left}
 use Rattle.rules.specs.After.{facts_of, refused_of, jobs_beside, turn_exchanged, kept_of}
-use Rattle.rules.specs.State.{world_of, shown_in, shown_on, same_shown, boards_of, texts_of, board_after, State}
-use Rattle.rules.specs.Due.{due, due_publication, published_by, due_answer, kept_text}
+use Rattle.rules.specs.State.{world_of, shown_in, shown_on, same_shown, boards_of, texts_of, State}
+use Rattle.rules.specs.Due.{due, published_by, kept_text}
 use Rattle.rules.specs.Laws.{ShowsCard, KeptLooksBack}
-use Rattle.rules.specs.Performed.{ends_turn, begins_as, is_published, does}
-use Rattle.rules.specs.Rules.{is_turn_of, is_begun_at, same_answer, has_right_answer, has_right_fault, has_right_response, is_snapshot_right, has_right_snapshot, is_actor_right, is_bare_turn_right, is_turn_done, is_turn_right, is_mark_right, is_begin_right, has_right_place}
+use Rattle.rules.specs.Performed.{ends_turn, begins_as, is_published}
+use Rattle.rules.specs.Rules.{is_turn_of, is_begun_at, has_right_answer, has_right_fault, has_right_response, is_snapshot_right, has_right_snapshot, is_actor_right, is_bare_turn_right, is_turn_done, is_turn_right, is_mark_right, is_begin_right, has_right_place}
 use Rattle.performed.specs.Served.{serves}
-use Rattle.performed.specs.Followed.{is_given_or_refused, begins_turn, is_followed, are_followed}
+use Rattle.performed.specs.Followed.{is_given_or_refused, is_followed, are_followed}
 use Rattle.performed.specs.Told.{is_told, are_told}
-use Rattle.performed.specs.Placed.{allows_bare, is_turn_allowed, is_placed}
+use Rattle.performed.specs.Placed.{is_turn_allowed, is_placed}
 use Rattle.performed.specs.Laws.{MarksMove}
 use Rattle.performed.proofs.TurnsSays.{Begins, BeginsNow, says_of, begins_now}
 use Rattle.performed.proofs.LegalWorld.{lives_inside}

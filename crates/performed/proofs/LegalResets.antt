@@ -1,5 +1,5 @@
 -- The framework alone resets the card: a turn of another actor of a served script sends nothing but a reading's commands.
-use Rattle.std.proofs.Common.{◌≡◌, ℕ, zero, suc, ◌==◌, ◌&&◌, ◌||◌, Bool, true, false, if◌then◌else◌, Option, Some, None, List, [], ◌∷◌, refl, sym, ap, ◌∙◌, subst, true≢false}
+use Rattle.std.proofs.Common.{◌≡◌, ℕ, zero, suc, ◌&&◌, ◌||◌, Bool, true, false, if◌then◌else◌, Option, Some, None, List, [], ◌∷◌, refl, sym, true≢false}
 use Rattle.std.proofs.lemmas.Bool.{and_parts, and_from, eqb-true}
 use Rattle.apdu.specs.Values.{CommandValue}
 use Rattle.apdu.specs.Words.{same_number}
@@ -16,7 +16,6 @@ use Rattle.link.specs.declared.chain.Final.{Final}
 use Rattle.loader.specs.declared.reading.RefusedReading.{RefusedReading}
 use Rattle.loader.specs.Load.{is_selected, read_behind}
 use Rattle.editor.specs.declared.editing.Attempt.{Attempt}
-use Rattle.editor.specs.Editing.{next_update, update_command}
 use Rattle.rules.specs.declared.kept.Begun.{Begun}
 use Rattle.rules.specs.declared.kept.Facts.{Facts}
 use Rattle.rules.specs.declared.kept.Job.{Job}
@@ -25,12 +24,12 @@ use Rattle.rules.specs.declared.kept.Stage.{Stage}
 use Rattle.rules.specs.declared.kept.Stage.TheVariants.{Fresh as fresh, Next as next, Resetting as resetting, Over as over}
 use Rattle.rules.specs.declared.kept.Turn.{Turn}
 use Rattle.rules.specs.declared.kept.Work.{Work}
-use Rattle.rules.specs.declared.kept.Work.TheVariants.{Rests as rests, Refuses as refuses, Lacks as lacks, Sends as sends, Reads as reads, Writes as writes, Resets as resets, Happens as happens}
+use Rattle.rules.specs.declared.kept.Work.TheVariants.{Rests as rests, Sends as sends, Reads as reads, Writes as writes, Resets as resets}
 use Rattle.rules.specs.History.{lives_in}
 use Rattle.rules.specs.Kept.{operation_at, begun_of, operation_now, job_of}
 use Rattle.rules.specs.Work.{reads_first, work_of_operation}
 use Rattle.rules.specs.Channels.{held_numbers}
-use Rattle.rules.specs.After.{facts_of, refused_of, jobs_beside, fresh_begun, decision_of_begun, decision_at, opened_behind, next_or_over, stage_after, stage_of_write, turn_exchanged, turn_behind, kept_of}
+use Rattle.rules.specs.After.{facts_of, refused_of, jobs_beside, fresh_begun, decision_of_begun, decision_at, opened_behind, next_or_over, stage_after, turn_exchanged, turn_behind, kept_of}
 use Rattle.rules.specs.Editing.{attempt_of}
 use Rattle.rules.specs.Due.{reset_by_stage}
 use Rattle.rules.specs.Rules.{is_turn_of}

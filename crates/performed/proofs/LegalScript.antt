@@ -1,44 +1,34 @@
 -- What the operations of a served script are; and so what a turn may publish, and that the framework alone resets the card.
-use Rattle.std.proofs.Common.{◌≡◌, ℕ, zero, suc, ◌==◌, ◌&&◌, ◌||◌, Bool, true, false, if◌then◌else◌, Option, Some, None, List, [], ◌∷◌, length, map, refl, sym, ap, ◌∙◌, subst, true≢false, arith}
-use Rattle.std.specs.Prelude.{nat_le, slice_get, unwrap_or, option_map, option_and_then, find, is_some, is_none, not}
+use Rattle.std.proofs.Common.{◌≡◌, ℕ, zero, suc, ◌==◌, ◌&&◌, ◌||◌, Bool, true, false, if◌then◌else◌, Option, Some, None, List, [], ◌∷◌, length, map, refl, sym, subst, true≢false, arith}
+use Rattle.std.specs.Prelude.{nat_le, slice_get, unwrap_or, option_map, find, is_some, not}
 use Rattle.std.specs.List.{list_all}
-use Rattle.std.proofs.lemmas.Bool.{and_parts, and_from, eqb-true, leb-true}
-use Rattle.apdu.specs.Values.{CommandValue}
-use Rattle.apdu.specs.Words.{is_between, is_empty, is_one_of, same_number}
-use Rattle.refresh_cmd.specs.Values.{ProactiveValue}
+use Rattle.std.proofs.lemmas.Bool.{and_parts, and_from, leb-true}
+use Rattle.apdu.specs.Words.{is_between, is_empty, is_one_of}
 use Rattle.script_reader.specs.declared.types.Operation.{Operation}
 use Rattle.script_reader.specs.declared.types.Operation.TheVariants as operation
 use Rattle.script_reader.specs.declared.types.Script.{Script}
-use Rattle.script_reader.specs.Cards.{is_card}
 use Rattle.script_reader.specs.Operations.{has_form, is_operation_within, has_target, is_actor, operation_count}
 use Rattle.script_reader.specs.Pairing.{are_paired}
 use Rattle.script_reader.specs.Rules.{cards_keep_rules, changes_keep_rules, actors_keep_rules, schedule_keeps_rules, faults_keep_rules, budget_keeps_rules, keeps_rules}
 use Rattle.report.specs.declared.line.Line.{Line}
 use Rattle.report.specs.declared.line.Line.TheVariants as line
-use Rattle.families.specs.Families.{all_families, family_paths}
+use Rattle.families.specs.Families.{all_families}
 use Rattle.epoch_cache.specs.declared.cached.Touch.{Touch}
-use Rattle.epoch_cache.specs.Cache.{first_missing}
 use Rattle.link.specs.declared.chain.Final.{Final}
 use Rattle.loader.specs.declared.reading.RefusedReading.{RefusedReading}
-use Rattle.loader.specs.Load.{is_selected}
 use Rattle.rules.specs.declared.kept.Begun.{Begun}
 use Rattle.rules.specs.declared.kept.Facts.{Facts}
 use Rattle.rules.specs.declared.kept.Job.{Job}
 use Rattle.rules.specs.declared.kept.Kept.{Kept}
-use Rattle.rules.specs.declared.kept.Stage.{Stage}
-use Rattle.rules.specs.declared.kept.Stage.TheVariants.{Fresh as fresh, Next as next, Resetting as resetting, Over as over}
 use Rattle.rules.specs.declared.kept.Turn.{Turn}
 use Rattle.rules.specs.declared.kept.Work.{Work}
-use Rattle.rules.specs.declared.kept.Work.TheVariants.{Rests as rests, Refuses as refuses, Lacks as lacks, Sends as sends, Reads as reads, Writes as writes, Resets as resets, Happens as happens}
 use Rattle.rules.specs.declared.standing.Standing.{Standing}
 use Rattle.rules.specs.History.{lives_in}
-use Rattle.rules.specs.Kept.{operations_of, operation_at, begun_of, begun_operation, operation_now, job_of}
+use Rattle.rules.specs.Kept.{operation_at, begun_of, begun_operation, operation_now, job_of}
 use Rattle.rules.specs.Channels.{held_numbers}
 use Rattle.rules.specs.Standing.{standing_after, is_stale, first_stale}
-use Rattle.rules.specs.Work.{is_starting, if_living, reads_first, family_of_operation, family_published, family_read}
-use Rattle.rules.specs.After.{facts_of, refused_of, family_begun, standings_behind, jobs_beside, fresh_begun, decision_of_begun, decision_at, family_of_begun, family_at, opened_behind, next_or_over, stage_after, stage_of_read, stage_of_write, outcome_of, turn_answered, turn_exchanged, turn_behind, kept_of}
-use Rattle.rules.specs.Due.{is_resetting, reset_by_stage, is_reset_due}
-use Rattle.rules.specs.Rules.{is_turn_of}
+use Rattle.rules.specs.Work.{is_starting, family_of_operation, family_read}
+use Rattle.rules.specs.After.{facts_of, refused_of, family_begun, jobs_beside, fresh_begun, decision_at, family_of_begun, family_at, turn_exchanged, turn_behind, kept_of}
 use Rattle.performed.specs.Served.{is_served, serves}
 
 -- ---- operations

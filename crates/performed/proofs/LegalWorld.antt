@@ -1,5 +1,5 @@
 -- Where a card is in the slot, an epoch lives: a script that is served takes no card out, and a call fails on an empty slot alone.
-use Rattle.std.proofs.Common.{◌≡◌, ℕ, ◌+◌, ◌==◌, ◌&&◌, ◌||◌, not, Bool, true, false, Option, Some, None, List, [], ◌∷◌, refl, sym, ap, ◌∙◌, true≢false}
+use Rattle.std.proofs.Common.{◌≡◌, ℕ, ◌+◌, ◌&&◌, ◌||◌, not, true, false, Option, Some, None, List, [], ◌∷◌, refl, sym, ap, ◌∙◌, true≢false}
 use Rattle.std.specs.Prelude.{is_none, is_some, slice_get}
 use Rattle.std.proofs.lemmas.Bool.{and_parts}
 use Rattle.std.specs.List.{list_all}
@@ -18,7 +18,7 @@ use Rattle.rules.specs.declared.kept.Kept.{Kept}
 use Rattle.rules.specs.History.{lives_behind}
 use Rattle.rules.specs.After.{kept_of}
 use Rattle.rules.specs.State.{world_after, world_of}
-use Rattle.rules.specs.Rules.{next_fault, is_failing, is_acting, same_flag, has_right_response, has_right_fault}
+use Rattle.rules.specs.Rules.{next_fault, is_failing, is_acting, has_right_response, has_right_fault}
 use Rattle.performed.specs.Served.{is_served, serves}
 use Rattle.performed.specs.Told.{is_told, are_told}
 
