@@ -1,6 +1,7 @@
 // Laws of legality, each the contract of a function that does nothing but to call the laws that it takes.
-use rules::{due_is_shown, kept_looks_back};
 ghost use Rattle.performed.specs.Laws.{LinesAreLegal, RunIsLegal};
+
+use rules::{due_is_shown, kept_looks_back};
 
 /// Lines that are due break no rule, where they show what the slot gave, and where their turns are those of the mode.
 pub fn due_lines_are_legal()
