@@ -13,48 +13,38 @@ use Rattle.rules.specs.Kept.{actor_count}
 use Rattle.rules.specs.Work.{is_finished}
 use Rattle.rules.specs.After.{kept_after, kept_of}
 use Rattle.rules.specs.Due.{due}
-use Rattle.rules.specs.State.{world_after, world_of, boards_after, boards_of, texts_after, texts_of, State, state_of}
+use Rattle.rules.specs.State.{world_of, boards_after, boards_of, State, state_of}
+use Rattle.rules.specs.Agreement.{are_responses_right}
 use Rattle.rules.specs.Laws.{ShowsCard, KeptLooksBack}
 use Rattle.rules.specs.Legal.{Tests, all_pass, mark_tests, other_tests, line_tests, end_tests, changed_in, is_legal_line, are_legal_lines, is_legal_end}
 use Rattle.rules.specs.Performed.{ends_turn}
-use Rattle.rules.specs.Rules.{has_right_edit, are_channels_right, is_rest_right, has_right_verify, has_right_place}
+use Rattle.rules.specs.Rules.{has_right_response, has_right_edit, are_channels_right, is_rest_right, has_right_verify, has_right_place}
 use Rattle.performed.specs.Served.{serves}
 use Rattle.performed.specs.Followed.{is_followed, are_followed}
 use Rattle.performed.specs.Told.{is_told, are_told}
 use Rattle.performed.specs.Placed.{is_turn_allowed, is_placed, are_placed}
 use Rattle.performed.specs.Laws.{LinesAreLegal, MarksMove, RunIsLegal}
 use Rattle.performed.proofs.CalmCards.{channels_right}
-use Rattle.performed.proofs.CalmRest.{rest_right}
+use Rattle.performed.proofs.CalmRest.{responses_right, rest_right}
+use Rattle.performed.proofs.CalmLent.{state_world, state_kept, state_texts}
 use Rattle.performed.proofs.CalmSends.{edits_right, verify_right}
-use Rattle.performed.proofs.LegalLines.{told_response, ends_done}
+use Rattle.performed.proofs.LegalLines.{ends_done}
 use Rattle.performed.proofs.LegalPlaces.{known, turn_right, line_placed, snapshot_right, line_answers, line_fails}
 
 -- ---- the state behind the lines
 
-state_world : (s : Script) (lines : List Line) → world_of s lines ≡ (state_of s lines).world
-state_world s [] = refl
-state_world s (l ∷ earlier) = ap (world_after l) (state_world s earlier)
-
-state_kept : (s : Script) (lines : List Line) → kept_of s lines ≡ (state_of s lines).kept
-state_kept s [] = refl
-state_kept s (l ∷ earlier) = ap (kept_after s l) (state_kept s earlier)
-
-state_boards : (s : Script) (lines : List Line) → boards_of s lines ≡ (state_of s lines).boards
+state_boards : (s : Script) (lines : List Line) → (state_of s lines).boards ≡ boards_of s lines
 state_boards s [] = refl
 state_boards s (l ∷ earlier) =
-    ap (λ (k : Kept). boards_after l (kept_after s l k) (boards_of s earlier)) (state_kept s earlier)
-    ∙ ap (boards_after l (kept_after s l (state_of s earlier).kept)) (state_boards s earlier)
+    ap (λ (k : Kept). boards_after l (kept_after s l k) (state_of s earlier).boards) (state_kept s earlier)
+    ∙ ap (boards_after l (kept_after s l (kept_of s earlier))) (state_boards s earlier)
 
-state_texts : (s : Script) (lines : List Line) → texts_of lines ≡ (state_of s lines).texts
-state_texts s [] = refl
-state_texts s (l ∷ earlier) = ap (texts_after l) (state_texts s earlier)
-
-state_known : (s : Script) (lines : List Line) → known s lines ≡ state_of s lines
+state_known : (s : Script) (lines : List Line) → state_of s lines ≡ known s lines
 state_known s lines =
-    ap (λ (w : World). record (known s lines) { world = w }) (state_world s lines)
-    ∙ ap (λ (k : Kept). record (known s lines) { world = (state_of s lines).world; kept = k }) (state_kept s lines)
-    ∙ ap (λ boards. record (known s lines) { world = (state_of s lines).world; kept = (state_of s lines).kept; boards = boards }) (state_boards s lines)
-    ∙ ap (λ texts. record (state_of s lines) { texts = texts }) (state_texts s lines)
+    ap (λ (w : World). record (state_of s lines) { world = w }) (state_world s lines)
+    ∙ ap (λ (k : Kept). record (state_of s lines) { world = world_of s lines; kept = k }) (state_kept s lines)
+    ∙ ap (λ boards. record (known s lines) { boards = boards; texts = (state_of s lines).texts }) (state_boards s lines)
+    ∙ ap (λ texts. record (known s lines) { texts = texts }) (state_texts s lines)
 
 -- ---- the rules of edits, verifications, channels and rest
 
@@ -73,7 +63,7 @@ module _ (moves : MarksMove) (shows : ShowsCard) (looks : KeptLooksBack) (s : Sc
   -- a turn that ends
   module _ (lines : List Line) (f : are_followed s lines ≡ true) (t : are_told s lines ≡ true) (e : ends_turn (due s (kept_of s lines)) ≡ true) where
     rest_known : is_rest_right (known s lines) (changed_in s lines) ≡ true
-    rest_known = subst (λ (st : State). is_rest_right st (changed_in s lines) ≡ true) (sym (state_known s lines)) (others.rest lines f t e)
+    rest_known = subst (λ (st : State). is_rest_right st (changed_in s lines) ≡ true) (state_known s lines) (others.rest lines f t e)
 
     end_known : is_turn_allowed m (kept_of s lines).turn ≡ true → is_finished s (kept_of s lines) ≡ true → all_pass (end_tests s m (changed_in s lines) (known s lines)) ≡ true
     end_known allowed finished =
@@ -95,7 +85,7 @@ module _ (moves : MarksMove) (shows : ShowsCard) (looks : KeptLooksBack) (s : Sc
         let all_f : are_followed s (l ∷ earlier) ≡ true = and_from (are_followed s earlier) (is_followed s k l) f h in
         let all_t : are_told s (l ∷ earlier) ≡ true = and_from (are_told s earlier) (is_told s w k l) t told in
         pass (other_tests s m (known s earlier) l)
-        (told_response s w k l told)
+        (and_parts (are_responses_right s earlier) (has_right_response w l) (responses_right s (l ∷ earlier) all_t)).1
         (snapshot_right moves shows looks s rules v m earlier f t l h)
         (others.edits earlier l all_f all_t) refl refl
         (line_answers s w k l h told)
@@ -119,12 +109,12 @@ module _ (moves : MarksMove) (shows : ShowsCard) (looks : KeptLooksBack) (s : Sc
       let qt = and_parts (are_told s earlier) (is_told s w k l) t in
       let qp = and_parts (are_placed s m earlier) (is_placed s m k l) p in
       and_from (is_legal_line s m l earlier) (are_legal_lines s m earlier)
-      (subst (λ (st : State). all_pass (line_tests s m (changed_in s earlier) st l) ≡ true) (state_known s earlier) (line_known earlier qf.0 qt.0 l qf.1 qt.1 qp.1))
+      (subst (λ (st : State). all_pass (line_tests s m (changed_in s earlier) st l) ≡ true) (sym (state_known s earlier)) (line_known earlier qf.0 qt.0 l qf.1 qt.1 qp.1))
       (lines_legal earlier qf.0 qt.0 qp.0)
 
   end_legal : (lines : List Line) → are_followed s lines ≡ true → are_told s lines ≡ true → is_turn_allowed m (kept_of s lines).turn ≡ true → ends_turn (due s (kept_of s lines)) ≡ true → is_finished s (kept_of s lines) ≡ true → is_legal_end s m lines ≡ true
   end_legal lines f t allowed e finished =
-      subst (λ (st : State). all_pass (end_tests s m (changed_in s lines) st) ≡ true) (state_known s lines) (end_known lines f t e allowed finished)
+      subst (λ (st : State). all_pass (end_tests s m (changed_in s lines) st) ≡ true) (sym (state_known s lines)) (end_known lines f t e allowed finished)
 
 -- ---- the laws
 

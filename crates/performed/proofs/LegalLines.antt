@@ -1,5 +1,5 @@
 -- A line that is due breaks no rule; neither does the turn that ends where nothing is due.
-use Rattle.std.proofs.Common.{◌≡◌, ℕ, ◌+◌, ◌==◌, ◌&&◌, ◌||◌, Bool, true, false, if◌then◌else◌, Option, Some, None, List, [], ◌∷◌, refl, sym, ap, ◌∙◌, subst, true≢false}
+use Rattle.std.proofs.Common.{◌≡◌, ℕ, ◌+◌, ◌==◌, ◌&&◌, ◌||◌, Bool, true, false, if◌then◌else◌, Option, Some, None, List, refl, sym, ap, ◌∙◌, subst, true≢false}
 use Rattle.std.specs.Prelude.{is_none, is_some}
 use Rattle.std.proofs.lemmas.Bool.{and_parts, and_from, eqb-true, eq-eqb}
 use Rattle.apdu.specs.Values.{CommandValue, ResponseValue}
@@ -11,34 +11,17 @@ use Rattle.card_model.specs.Slot.{refusal_of}
 use Rattle.script_reader.specs.declared.types.Script.{Script}
 use Rattle.report.specs.declared.answer.Answer.{Answer}
 use Rattle.report.specs.declared.answer.Answer.TheVariants as answer
-use Rattle.report.specs.declared.line.Line.{Line}
 use Rattle.report.specs.declared.line.Line.TheVariants as line
 use Rattle.rules.specs.declared.due.Due.{Due}
-use Rattle.rules.specs.declared.due.Due.TheVariants.{TellEnd as tell_end, Send as send, ResetCard as reset_card, TryEvent as try_event, TellRefusal as tell_refusal, Publish as publish, Give as give}
+use Rattle.rules.specs.declared.due.Due.TheVariants.{TellEnd as tell_end, ResetCard as reset_card, TryEvent as try_event, TellRefusal as tell_refusal, Publish as publish, Give as give}
 use Rattle.rules.specs.declared.kept.Kept.{Kept}
 use Rattle.rules.specs.Kept.{begun_of}
-use Rattle.rules.specs.After.{kept_of}
-use Rattle.rules.specs.State.{world_of}
 use Rattle.rules.specs.Due.{due, due_command, is_reset_due, due_event, event_by, due_publication, due_answer, slot_answer, slot_answer_by, kept_text}
-use Rattle.rules.specs.Agreement.{are_responses_right}
 use Rattle.rules.specs.Performed.{ends_turn, is_sent, is_reset, happens_as, is_published, is_end_told, is_refusal_told, is_given}
-use Rattle.rules.specs.Rules.{is_turn_of, is_begun_at, same_event, same_answer, is_look, is_answer_among, is_answer_right, is_refusal_right, are_answers_given, has_right_response, has_right_fault, is_end_right, is_end_published, is_turn_done, is_command_right, is_reset_right, is_event_right}
-use Rattle.performed.specs.Told.{is_told, are_told}
+use Rattle.rules.specs.Rules.{is_turn_of, is_begun_at, same_event, same_answer, is_look, is_answer_among, is_answer_right, is_refusal_right, are_answers_given, is_end_right, is_end_published, is_turn_done, is_command_right, is_reset_right, is_event_right}
+use Rattle.performed.proofs.CalmLent.{sent_of, lost_of}
 use Rattle.performed.proofs.TurnsSays.{IsDone, says_of, turn_done}
 use Rattle.performed.proofs.LegalResets.{is_calm, resets_framework}
-
--- ---- responses
-
-pub told_response : (s : Script) (w : World) (k : Kept) (l : Line) → is_told s w k l ≡ true → has_right_response w l ≡ true
-told_response s w k (line.Exchange a c r) h = (and_parts (has_right_response w (line.Exchange a c r)) (has_right_fault s w k (line.Exchange a c r)) h).0
-told_response s w k (line.Failed a c acted) h = (and_parts (has_right_response w (line.Failed a c acted)) (has_right_fault s w k (line.Failed a c acted)) h).0
-told_response s w k l h = refl
-
-pub responses_right : (s : Script) (lines : List Line) → are_told s lines ≡ true → are_responses_right s lines ≡ true
-responses_right s [] h = refl
-responses_right s (l ∷ earlier) h =
-    let q = and_parts (are_told s earlier) (is_told s (world_of s earlier) (kept_of s earlier) l) h in
-    and_from (are_responses_right s earlier) (has_right_response (world_of s earlier) l) (responses_right s earlier q.0) (told_response s (world_of s earlier) (kept_of s earlier) l q.1)
 
 -- ---- what is due, and the line that does it
 
@@ -47,23 +30,15 @@ turned a b h = eq-eqb b a (sym (eqb-true a b h))
 
 module _ (s : Script) (k : Kept) where
   -- a command
-  sent_of : (c : CommandValue) (r : ResponseValue) (a : ℕ) (d : Due) → due s k ≡ d → is_sent d (line.Exchange a c r) ≡ true → has_value (same_command c) (due_command k) ≡ true
-  sent_of c r a (send x) e h = ap (has_value (same_command c)) (says_of s k (send x) e) ∙ h
-  sent_of c r a d e h = absurd (true≢false (sym h))
-
-  lost_of : (c : CommandValue) (acted : Bool) (a : ℕ) (d : Due) → due s k ≡ d → is_sent d (line.Failed a c acted) ≡ true → has_value (same_command c) (due_command k) ≡ true
-  lost_of c acted a (send x) e h = ap (has_value (same_command c)) (says_of s k (send x) e) ∙ h
-  lost_of c acted a d e h = absurd (true≢false (sym h))
-
   pub exchange_placed : (a : ℕ) (c : CommandValue) (r : ResponseValue) → is_turn_of a k.turn && is_sent (due s k) (line.Exchange a c r) ≡ true → is_command_right k a c ≡ true
   exchange_placed a c r h =
       let q = and_parts (is_turn_of a k.turn) (is_sent (due s k) (line.Exchange a c r)) h in
-      and_from (is_turn_of a k.turn) (has_value (same_command c) (due_command k)) q.0 (sent_of c r a (due s k) refl q.1)
+      and_from (is_turn_of a k.turn) (has_value (same_command c) (due_command k)) q.0 (sent_of s k a c r q.1)
 
   pub failed_placed : (a : ℕ) (c : CommandValue) (acted : Bool) → is_turn_of a k.turn && is_sent (due s k) (line.Failed a c acted) ≡ true → is_command_right k a c ≡ true
   failed_placed a c acted h =
       let q = and_parts (is_turn_of a k.turn) (is_sent (due s k) (line.Failed a c acted)) h in
-      and_from (is_turn_of a k.turn) (has_value (same_command c) (due_command k)) q.0 (lost_of c acted a (due s k) refl q.1)
+      and_from (is_turn_of a k.turn) (has_value (same_command c) (due_command k)) q.0 (lost_of s k a c acted q.1)
 
   -- a reset
   reset_of : (d : Due) → due s k ≡ d → is_reset d ≡ true → is_reset_due k ≡ true

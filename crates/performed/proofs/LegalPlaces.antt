@@ -40,13 +40,14 @@ use Rattle.performed.specs.Followed.{is_given_or_refused, is_followed, are_follo
 use Rattle.performed.specs.Told.{is_told, are_told}
 use Rattle.performed.specs.Placed.{is_turn_allowed, is_placed}
 use Rattle.performed.specs.Laws.{MarksMove}
+use Rattle.performed.proofs.CalmRest.{responses_right}
 use Rattle.performed.proofs.TurnsSays.{Begins, BeginsNow, says_of, begins_now}
 use Rattle.performed.proofs.LegalWorld.{lives_inside}
 use Rattle.performed.proofs.LegalDue.{does_line}
 use Rattle.performed.proofs.LegalScript.{is_family_or_none, family_known}
 use Rattle.performed.proofs.LegalResets.{turn_calm}
 use Rattle.performed.proofs.LegalLooks.{look_placed}
-use Rattle.performed.proofs.LegalLines.{responses_right, exchange_placed, failed_placed, reset_placed, event_placed, answer_right, refusal_right, end_of, published_of, ends_done}
+use Rattle.performed.proofs.LegalLines.{exchange_placed, failed_placed, reset_placed, event_placed, answer_right, refusal_right, end_of, published_of, ends_done}
 
 -- ---- the turn that ends
 
