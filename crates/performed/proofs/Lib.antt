@@ -18,3 +18,12 @@ mod CalmSends
 mod CalmArmed
 mod CalmCards
 mod CalmRest
+mod ProgressActors
+mod ProgressJobs
+mod ProgressMarks
+mod ProgressServed
+mod ProgressSomebody
+mod ProgressBegins
+mod ProgressSound
+mod ProgressGoes
+mod ProgressMoves
