@@ -13,21 +13,22 @@ use Rattle.rules.specs.Kept.{actor_count}
 use Rattle.rules.specs.Work.{is_finished}
 use Rattle.rules.specs.After.{kept_after, kept_of}
 use Rattle.rules.specs.Due.{due}
-use Rattle.rules.specs.State.{world_of, boards_after, boards_of, State, state_of}
+use Rattle.rules.specs.State.{world_of, boards_after, boards_of, State, state_after, state_of}
 use Rattle.rules.specs.Agreement.{are_responses_right}
 use Rattle.rules.specs.Laws.{ShowsCard, KeptLooksBack}
 use Rattle.rules.specs.Legal.{Tests, all_pass, mark_tests, other_tests, line_tests, end_tests, changed_in, is_legal_line, are_legal_lines, is_legal_end}
-use Rattle.rules.specs.Performed.{ends_turn}
+use Rattle.rules.specs.Performed.{ends_turn, does_due, performed_of}
 use Rattle.rules.specs.Rules.{has_right_response, has_right_edit, are_channels_right, is_rest_right, has_right_verify, has_right_place}
 use Rattle.performed.specs.Served.{serves}
 use Rattle.performed.specs.Followed.{is_followed, are_followed}
 use Rattle.performed.specs.Told.{is_told, are_told}
 use Rattle.performed.specs.Placed.{is_turn_allowed, is_placed, are_placed}
-use Rattle.performed.specs.Laws.{LinesAreLegal, MarksMove, RunIsLegal}
+use Rattle.performed.specs.Laws.{LinesAreLegal, LinesArePerformed, MarksMove, RunIsLegal}
 use Rattle.performed.proofs.CalmCards.{channels_right}
 use Rattle.performed.proofs.CalmRest.{responses_right, rest_right}
 use Rattle.performed.proofs.CalmLent.{state_world, state_kept, state_texts}
 use Rattle.performed.proofs.CalmSends.{edits_right, verify_right}
+use Rattle.performed.proofs.LegalDue.{does_line}
 use Rattle.performed.proofs.LegalLines.{ends_done}
 use Rattle.performed.proofs.LegalPlaces.{known, turn_right, line_placed, snapshot_right, line_answers, line_fails}
 
@@ -45,6 +46,23 @@ state_known s lines =
     ∙ ap (λ (k : Kept). record (state_of s lines) { world = world_of s lines; kept = k }) (state_kept s lines)
     ∙ ap (λ boards. record (known s lines) { boards = boards; texts = (state_of s lines).texts }) (state_boards s lines)
     ∙ ap (λ texts. record (known s lines) { texts = texts }) (state_texts s lines)
+
+-- ---- each line is what is due
+
+performed_state : (s : Script) (lines : List Line) → (performed_of s lines).state ≡ state_of s lines
+performed_state s [] = refl
+performed_state s (l ∷ earlier) = ap (state_after s l) (performed_state s earlier)
+
+pub lines_are_performed : LinesArePerformed
+lines_are_performed s [] f t = refl
+lines_are_performed s (l ∷ earlier) f t =
+    let k : Kept = kept_of s earlier in
+    let w : World = world_of s earlier in
+    let qf = and_parts (are_followed s earlier) (is_followed s k l) f in
+    let qt = and_parts (are_told s earlier) (is_told s w k l) t in
+    and_from (does_due s (performed_of s earlier).state l) (performed_of s earlier).due
+    (subst (λ (st : State). does_due s st l ≡ true) (sym (performed_state s earlier ∙ state_known s earlier)) (does_line s w k l qf.1 qt.1))
+    (lines_are_performed s earlier qf.0 qt.0)
 
 -- ---- the rules of edits, verifications, channels and rest
 

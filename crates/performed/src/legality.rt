@@ -1,5 +1,5 @@
 // Laws of legality, each the contract of a function that does nothing but to call the laws that it takes.
-ghost use Rattle.performed.specs.Laws.{LinesAreLegal, RunIsLegal};
+ghost use Rattle.performed.specs.Laws.{LinesAreLegal, LinesArePerformed, RunIsLegal};
 
 use rules::{due_is_shown, kept_looks_back};
 
@@ -18,3 +18,8 @@ pub fn finished_runs_are_legal()
     due_is_shown();
     kept_looks_back();
 }
+
+/// Lines that are due and show what the slot gave are what is due, with their numbers and their texts.
+pub fn due_lines_are_performed()
+    ensures { LinesArePerformed }
+{}
