@@ -1,11 +1,8 @@
 -- Somebody's turn would move until the run is finished, and nobody's once it is.
-use Rattle.std.proofs.Common.{◌≡◌, ◌≤◌, ◌<◌, ℕ, zero, suc, ◌+◌, ◌==◌, ◌&&◌, ◌||◌, not, Bool, true, false, if◌then◌else◌, List, [], ◌∷◌, length, Option, Some, None, is_some, is_none, refl, sym, ap, ◌∙◌, subst, arith, true≢false}
+use Rattle.std.proofs.Common.{◌≡◌, ◌≤◌, ◌<◌, ℕ, zero, suc, ◌+◌, ◌==◌, not, Bool, true, false, List, [], ◌∷◌, length, Option, Some, None, is_none, refl, sym, ap, ◌∙◌, subst, arith, true≢false}
 use Rattle.std.proofs.lemmas.Bool.{eqb-true, and_parts}
-use Rattle.script_reader.specs.declared.types.Script.{Script}
 use Rattle.script_reader.specs.declared.types.Operation.{Operation}
-use Rattle.rules.specs.declared.kept.Kept.{Kept}
-use Rattle.rules.specs.Kept.{actor_count}
-use Rattle.rules.specs.Work.{has_work, has_operations_left, first_actor, all_answered, is_finished, has_ended, waits_on, is_idle}
+use Rattle.rules.specs.Work.{has_work, has_operations_left, first_actor, all_answered}
 use Rattle.performed.specs.Laws.{NobodyMoves}
 
 -- ---- the first actor that passes a test

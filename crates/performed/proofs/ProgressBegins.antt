@@ -1,17 +1,15 @@
 -- Where an operation begins, the last line is its actor's mark, and it has operations left.
-use Rattle.std.proofs.Common.{◌≡◌, ◌<◌, ◌≤◌, ℕ, zero, suc, ◌+◌, ◌==◌, ◌&&◌, not, Bool, true, false, if◌then◌else◌, List, [], ◌∷◌, length, Option, Some, None, is_some, is_none, refl, sym, ap, ◌∙◌, subst, arith, true≢false}
+use Rattle.std.proofs.Common.{◌≡◌, ℕ, zero, suc, ◌&&◌, not, Bool, true, false, if◌then◌else◌, List, [], ◌∷◌, length, Option, Some, None, is_some, is_none, refl, sym, subst, arith, true≢false}
 use Rattle.std.specs.Prelude.{nat_lt, slice_get}
 use Rattle.std.proofs.lemmas.Bool.{eqb-true, and_parts}
 use Rattle.apdu.specs.Values.{CommandValue}
 use Rattle.apdu.specs.Words.{same_number}
 use Rattle.card_model.specs.declared.world.WorldEvent.{WorldEvent}
 use Rattle.script_reader.specs.declared.types.Script.{Script}
-use Rattle.script_reader.specs.declared.types.Operation.{Operation}
 use Rattle.report.specs.declared.answer.Answer.{Answer}
 use Rattle.rules.specs.declared.kept.Kept.{Kept}
 use Rattle.rules.specs.Kept.{operations_of, operation_at, job_of, begun_of}
 use Rattle.rules.specs.Work.{has_operations_left, has_ended, waits_on}
-use Rattle.rules.specs.declared.due.Due.{Due}
 use Rattle.rules.specs.declared.due.Due.TheVariants.{Begin as begin, WaitFor as wait_for, EndOfActor as end_of_actor, Rest as rest}
 use Rattle.rules.specs.Due.{begin_or_rest, due_at_mark, due_of_actor, due_by_answer, due_by_publication, due_by_refusal, due_by_event, due_by_reset, due_by_command, due_by_end, due, due_command, is_reset_due, tried_event, due_publication, due_answer}
 use Rattle.rules.specs.Rules.{is_turn_of}

@@ -1,6 +1,6 @@
 -- What makes a line due in a turn whose beginning has done nothing yet.
-use Rattle.std.proofs.Common.{◌≡◌, ℕ, zero, suc, ◌==◌, ◌&&◌, ◌||◌, not, Bool, true, false, if◌then◌else◌, List, [], ◌∷◌, Option, Some, None, is_some, is_none, refl, sym, ap, ◌∙◌, subst, true≢false}
-use Rattle.std.specs.Prelude.{option_and_then, find}
+use Rattle.std.proofs.Common.{◌≡◌, ℕ, ◌&&◌, ◌||◌, not, Bool, true, false, if◌then◌else◌, List, [], ◌∷◌, Option, Some, None, is_some, is_none, refl, sym, ap, ◌∙◌, true≢false}
+use Rattle.std.specs.Prelude.{option_and_then}
 use Rattle.std.proofs.lemmas.Bool.{and_from}
 use Rattle.apdu.specs.Values.{CommandValue}
 use Rattle.card_model.specs.declared.world.WorldEvent.{WorldEvent}
@@ -12,7 +12,6 @@ use Rattle.report.specs.declared.answer.Answer.{Answer}
 use Rattle.families.specs.Families.{family_paths}
 use Rattle.epoch_cache.specs.declared.cached.CachedFile.{CachedFile}
 use Rattle.epoch_cache.specs.Cache.{is_current, all_current, first_missing}
-use Rattle.epoch_cache.specs.declared.past.Past.{Past}
 use Rattle.link.specs.declared.chain.Chain.{Chain}
 use Rattle.rules.specs.declared.kept.Begun.{Begun}
 use Rattle.rules.specs.declared.kept.Kept.{Kept}
@@ -22,8 +21,7 @@ use Rattle.rules.specs.declared.kept.Work.{Work}
 use Rattle.rules.specs.declared.kept.Work.TheVariants.{Rests as rests, Sends as sends, Reads as reads, Resets as resets, Happens as happens}
 use Rattle.rules.specs.History.{lives_in, is_living}
 use Rattle.rules.specs.Kept.{job_of, begun_of, operation_now}
-use Rattle.rules.specs.Work.{reads_first, work_of_operation, family_published, family_of_operation}
-use Rattle.rules.specs.declared.due.Due.{Due}
+use Rattle.rules.specs.Work.{reads_first, work_of_operation, family_published}
 use Rattle.apdu.specs.Words.{or_else}
 use Rattle.rules.specs.Due.{with_card, with_ended, is_lost, loaded, outcome_answer, first_command, first_of_turn, command_by_stage, command_by_chain, reset_by_stage, event_by_stage, event_of, is_resetting, published_by, answer_of_begun, answer_of_actor, due_of_actor, due_by_answer, due_by_publication, due_by_refusal, due_by_event, due_by_reset, due_by_command, due_by_end, due, due_command, is_reset_due, tried_event, due_publication, due_answer}
 use Rattle.rules.specs.Performed.{ends_turn}

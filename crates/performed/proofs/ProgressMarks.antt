@@ -1,13 +1,11 @@
 -- A mark leaves open what is open.
-use Rattle.std.proofs.Common.{◌≡◌, ℕ, zero, suc, ◌+◌, ◌-◌, ◌==◌, ◌&&◌, ◌||◌, not, Bool, true, false, if◌then◌else◌, List, [], ◌∷◌, map, length, Option, Some, None, is_some, is_none, refl, sym, ap, ◌∙◌, true≢false}
+use Rattle.std.proofs.Common.{◌≡◌, ℕ, zero, suc, ◌+◌, ◌-◌, ◌&&◌, ◌||◌, not, Bool, true, false, if◌then◌else◌, List, [], ◌∷◌, map, length, Option, Some, None, is_some, is_none, refl, sym, ap, ◌∙◌, true≢false}
 use Rattle.std.specs.Prelude.{option_map, nat_lt}
-use Rattle.std.specs.List.{list_any}
 use Rattle.apdu.specs.Values.{CommandValue}
 use Rattle.apdu.specs.Words.{has_value}
 use Rattle.script_reader.specs.declared.types.Script.{Script}
 use Rattle.script_reader.specs.declared.types.Operation.{Operation}
 use Rattle.adn.specs.declared.edit.Edit.{Edit}
-use Rattle.report.specs.declared.line.Line.{Line}
 use Rattle.report.specs.declared.line.Line.TheVariants as line
 use Rattle.families.specs.Families.{family_paths}
 use Rattle.refresher.specs.Refresh.{startup_steps}
@@ -15,19 +13,19 @@ use Rattle.editor.specs.declared.editing.Attempt.{Attempt}
 use Rattle.epoch_cache.specs.declared.cached.CachedFile.{CachedFile}
 use Rattle.epoch_cache.specs.declared.cached.Touch.{Touch}
 use Rattle.epoch_cache.specs.declared.past.Past.{Past}
-use Rattle.epoch_cache.specs.Cache.{is_renewed, renews_one, forgotten}
+use Rattle.epoch_cache.specs.Cache.{renews_one, forgotten}
 use Rattle.rules.specs.declared.kept.Begun.{Begun}
 use Rattle.rules.specs.declared.kept.Job.{Job}
 use Rattle.rules.specs.declared.kept.Kept.{Kept}
 use Rattle.rules.specs.declared.standing.Standing.{Standing}
 use Rattle.rules.specs.Standing.{first_stale, standing_by, standing_after, unless_settled}
 use Rattle.rules.specs.Kept.{operations_of, operation_at, job_of, begun_of, begun_operation, operation_now, next_operation}
-use Rattle.rules.specs.Work.{is_starting, has_work, has_operations_left, first_actor, all_answered, is_finished, needs_card, is_edit_of, edits_family, edited_by, operation_waits_on, next_waits_on, waits_on, has_ended, is_idle}
+use Rattle.rules.specs.Work.{has_work, has_operations_left, first_actor, all_answered, is_finished, needs_card, is_edit_of, edits_family, edited_by, operation_waits_on, next_waits_on, waits_on, has_ended, is_idle}
 use Rattle.rules.specs.Editing.{family_edit}
 use Rattle.rules.specs.After.{facts_of, decision_at, begun_beside, begun_with, job_beside, jobs_beside, own_job, kept_after}
 use Rattle.rules.specs.Cache.{touch_of}
-use Rattle.performed.specs.Progress.{unanswered, operations_left}
-use Rattle.performed.specs.Laws.{LeavesOpen, MarksLeaveOpen}
+use Rattle.performed.specs.Progress.{unanswered}
+use Rattle.performed.specs.Laws.{MarksLeaveOpen}
 use Rattle.performed.proofs.ProgressActors.{picked}
 use Rattle.performed.proofs.ProgressJobs.{changed, mapped}
 

@@ -1,10 +1,9 @@
 -- A turn that neither waits nor finds nothing left has something to do, also behind the line that begins its operation.
-use Rattle.std.proofs.Common.{◌≡◌, ℕ, zero, suc, ◌+◌, ◌==◌, ◌&&◌, ◌||◌, not, Bool, true, false, if◌then◌else◌, List, [], ◌∷◌, map, length, Option, Some, None, is_some, is_none, refl, sym, ap, ◌∙◌, subst, arith, true≢false, length-set}
+use Rattle.std.proofs.Common.{◌≡◌, ℕ, zero, suc, ◌+◌, ◌&&◌, ◌||◌, not, Bool, true, false, if◌then◌else◌, List, [], ◌∷◌, length, Option, Some, None, is_some, is_none, refl, sym, ap, ◌∙◌, arith, true≢false, length-set}
 use Rattle.std.specs.Prelude.{option_map, slice_get, nat_lt, unwrap_or}
 use Rattle.std.proofs.lemmas.Bool.{and_parts, or_parts}
 use Rattle.std.proofs.lemmas.List.{length-map, length-replicate}
 use Rattle.apdu.specs.Values.{CommandValue, ResponseValue}
-use Rattle.refresh_cmd.specs.Values.{ProactiveValue}
 use Rattle.script_reader.specs.declared.types.Script.{Script}
 use Rattle.script_reader.specs.declared.types.Operation.{Operation}
 use Rattle.report.specs.declared.line.Line.{Line}
@@ -25,11 +24,11 @@ use Rattle.rules.specs.declared.kept.Work.{Work}
 use Rattle.rules.specs.declared.kept.Work.TheVariants.{Rests as rests, Sends as sends, Resets as resets}
 use Rattle.rules.specs.declared.due.Due.TheVariants.{Begin as begin, WaitFor as wait_for, EndOfActor as end_of_actor, Rest as rest}
 use Rattle.rules.specs.Standing.{first_stale}
-use Rattle.rules.specs.Kept.{actor_count, first_job, operation_at, job_of, begun_of, begun_operation, operation_now, changed_at, change_at}
+use Rattle.rules.specs.Kept.{actor_count, first_job, operation_at, job_of, begun_of, begun_operation, operation_now, changed_at}
 use Rattle.rules.specs.Work.{is_starting, has_work_alive, has_work, has_operations_left, first_actor, all_answered, is_finished, has_ended, waits_on, is_idle, reads_first, read_stale, first_item, framework_work, family_read}
 use Rattle.rules.specs.After.{facts_of, decision_at, decision_of_begun, family_of_begun, fresh_begun, begun_with, job_beside, jobs_beside, own_job, actor_of, jobs_of_actor, opened_behind, refused_of, turn_answered, turn_exchanged, kept_after, kept_of}
 use Rattle.rules.specs.Channels.{held_numbers}
-use Rattle.rules.specs.Due.{begin_or_rest, due_at_mark, due}
+use Rattle.rules.specs.Due.{begin_or_rest, due}
 use Rattle.rules.specs.Rules.{is_turn_of}
 use Rattle.rules.specs.Performed.{ends_turn, begins_as}
 use Rattle.performed.specs.Served.{is_served, serves}
@@ -39,7 +38,7 @@ use Rattle.performed.proofs.ProgressJobs.{changed_here}
 use Rattle.performed.proofs.ProgressMarks.{Seen, seen_of, SameWork, now_same, ended_same, waits_same, same_work, all_kept}
 use Rattle.performed.proofs.ProgressServed.{served_at}
 use Rattle.performed.proofs.ProgressBegins.{Starts, starts, nothing_below, some_below, operation_there}
-use Rattle.performed.proofs.ProgressSound.{lives_or_ended, IsSoundBegun, IsSoundOption, IsSoundJob, fresh_lives, sound}
+use Rattle.performed.proofs.ProgressSound.{lives_or_ended, IsSoundOption, IsSoundJob, fresh_lives, sound}
 use Rattle.performed.proofs.ProgressGoes.{IsFreshTurn, RunsAs, goes_by_actor, sends_goes, resets_goes, load_goes, operation_goes}
 
 -- ---- the framework

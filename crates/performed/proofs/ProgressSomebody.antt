@@ -1,5 +1,5 @@
 -- While a served run is not finished, somebody's turn would move.
-use Rattle.std.proofs.Common.{◌≡◌, ◌≤◌, ℕ, zero, suc, ◌+◌, ◌&&◌, ◌||◌, not, Bool, true, false, if◌then◌else◌, List, [], ◌∷◌, length, Option, Some, None, is_some, is_none, refl, sym, ap, ◌∙◌, subst, arith, true≢false}
+use Rattle.std.proofs.Common.{◌≡◌, ◌≤◌, ℕ, zero, suc, ◌+◌, ◌&&◌, ◌||◌, not, Bool, true, false, if◌then◌else◌, length, Option, Some, None, is_some, is_none, refl, sym, ap, ◌∙◌, subst, arith, true≢false}
 use Rattle.std.proofs.lemmas.Bool.{or_parts}
 use Rattle.script_reader.specs.declared.types.Script.{Script}
 use Rattle.script_reader.specs.declared.types.Operation.{Operation}
@@ -7,7 +7,7 @@ use Rattle.script_reader.specs.declared.types.Operation.TheVariants as operation
 use Rattle.rules.specs.declared.kept.Kept.{Kept}
 use Rattle.rules.specs.Standing.{first_stale}
 use Rattle.rules.specs.Kept.{actor_count, begun_of, next_operation}
-use Rattle.rules.specs.Work.{is_starting, has_work_alive, has_work, has_operations_left, first_actor, all_answered, is_finished, needs_card, edited_by, operation_waits_on, next_waits_on, waits_on, is_idle}
+use Rattle.rules.specs.Work.{is_starting, has_work_alive, has_work, has_operations_left, first_actor, all_answered, is_finished, needs_card, edited_by, next_waits_on, waits_on, is_idle}
 use Rattle.rules.specs.After.{kept_of}
 use Rattle.performed.specs.Served.{is_served, serves}
 use Rattle.performed.specs.Laws.{IsAwake, SomebodyMoves}
