@@ -1,5 +1,5 @@
 -- Laws of runs whose each line is the one that is due.
-use Rattle.std.specs.Prelude.{◌≡◌, ◌≤◌, ◌<◌, ◌*◌, ℕ, ◌+◌, ◌==◌, ◌++◌, not, Bool, true, false, nat_lt, nat_le, List, [], ◌∷◌, length, Option, Some, None}
+use Rattle.std.specs.Prelude.{◌≡◌, ◌≤◌, ℕ, ◌++◌, not, Bool, true, false, nat_lt, List, [], ◌∷◌, length, Option, Some, None}
 use Rattle.std.specs.List.{list_all}
 use Rattle.script_reader.specs.declared.types.Script.{Script}
 use Rattle.script_reader.specs.Rules.{keeps_rules}
@@ -18,11 +18,11 @@ use Rattle.rules.specs.Kept.{actor_count}
 use Rattle.rules.specs.Legal.{are_legal_lines, legal}
 use Rattle.rules.specs.Performed.{ends_turn, are_due}
 use Rattle.performed.specs.Served.{serves}
-use Rattle.performed.specs.Followed.{are_followed, is_followed}
+use Rattle.performed.specs.Followed.{are_followed}
 use Rattle.performed.specs.Told.{are_told}
 use Rattle.performed.specs.Placed.{are_placed, is_turn_allowed}
 use Rattle.performed.specs.Measure.{steps_left}
-use Rattle.performed.specs.Progress.{operations_left, stale_count, Moves}
+use Rattle.performed.specs.Progress.{operations_left, Moves}
 
 -- ---- legality
 
