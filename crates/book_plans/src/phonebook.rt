@@ -1,7 +1,7 @@
 // The two files of a phonebook, and the extension rows that a plan fills and frees.
-ghost use Rattle.std.specs.Prelude.{◌≡◌, ◌≤◌, ◌<◌, ◌==◌, ◌-◌, ◌∷◌, ℕ, [], None, true, IsTrue, IfOk, length, slice_get, slice_set, slice_index, slice_index_or};
+ghost use Rattle.std.specs.Prelude.{◌≡◌, ◌≤◌, ◌<◌, ◌==◌, ◌-◌, ◌∷◌, ◌&&◌, not, ℕ, [], None, true, IsTrue, IfOk, length, slice_get, slice_set, slice_index, slice_index_or};
 ghost use Rattle.std.specs.Option.{option_copied};
-ghost use Rattle.apdu.specs.Words.{is_one_of};
+ghost use Rattle.apdu.specs.Words.{is_between, is_one_of};
 ghost use Rattle.fcp.specs.Content.{is_linear};
 ghost use Rattle.adn.specs.Book as books;
 ghost use Rattle.families.specs.Plans as plans;
@@ -213,14 +213,35 @@ impl<'a> Phonebook<'a> {
     pub fn free_extension(&self) -> Option<u8>
         ensures { result ≡ plans.free_extension self.now.main self.now.ext }
     {
-        let named = marks_of(self.names.as_slice());
+        let named = self.named();
         for number in 1..255u8 {
             let row = extension_row(self.ext, number)?;
-            if has_free_type(row) && !named[usize::from(number)] {
+            if self.is_free(&named, number, row) {
                 return Some(number);
             }
         }
         None
+    }
+
+    /// Which extension rows the main rows name.
+    #[tactic(auto, using(crate::proofs::Names::is_named_names))]
+    fn named(&self) -> [bool; 256]
+        ensures { (number : ℕ) → number < 256 → slice_index_or result number true
+            ≡ plans.is_named (books.extension_rows self.now.ext) (books.main_rows self.now.main)
+                number }
+    {
+        marks_of(self.names.as_slice())
+    }
+
+    /// Whether an extension row is free.
+    fn is_free(&self, named: &[bool; 256], number: u8, row: &[u8]) -> bool
+        requires range { is_between 1 254 number ≡ true }
+        requires named { slice_index_or named.now number true
+            ≡ plans.is_named (books.extension_rows self.now.ext) (books.main_rows self.now.main)
+                number }
+        ensures { result ≡ plans.is_free_extension self.now.main self.now.ext number row.now }
+    {
+        has_free_type(row) && !named[usize::from(number)]
     }
 
     /// The extension row that a main row names as additional data, where no other main row names it.
@@ -229,15 +250,24 @@ impl<'a> Phonebook<'a> {
         requires last { at ≤ length self.now.main.rows }
         ensures { result ≡ plans.released_extension self.now.main self.now.ext at }
     {
-        let index = usize::from(at) - 1;
-        let names = self.names.as_slice();
-        let number = names[index]?;
-        if extension_type(self.ext, number) == ADDITIONAL_DATA
-            && !is_among_others(names, index, number)
-        {
+        let number = self.names.as_slice()[usize::from(at) - 1]?;
+        if self.is_released(at, number) {
             Some(number)
         } else {
             None
         }
+    }
+
+    /// Whether an extension row has additional data and no main row but this one names it.
+    #[tactic(auto, using(crate::proofs::Names::is_named_without))]
+    fn is_released(&self, at: u8, number: u8) -> bool
+        requires first { 1 ≤ at }
+        requires last { at ≤ length self.now.main.rows }
+        ensures { result ≡ ((plans.extension_type self.now.ext number == 0x02)
+            && not (plans.is_named (books.extension_rows self.now.ext)
+                (plans.without_row self.now.main at) number)) }
+    {
+        let others = is_among_others(self.names.as_slice(), usize::from(at) - 1, number);
+        extension_type(self.ext, number) == ADDITIONAL_DATA && !others
     }
 }
