@@ -58,10 +58,8 @@ among_behind names i n r s within e f rest =
 last_fill : (w : ℕ) → is_between 1 254 (get_or (replicate w 255) (length {A = ℕ} (replicate w 255) - 1) 0) ≡ false
 last_fill zero = refl
 last_fill (suc w) =
-    let len : length {A = ℕ} (replicate (suc w) 255) ≡ suc w = length-replicate (suc w) 255 in
-    let at : length {A = ℕ} (replicate (suc w) 255) - 1 ≡ w = omega arith in
-    let last : get_or (replicate (suc w) 255) w 0 ≡ 255 = get_or-replicate (suc w) w 255 0 (omega arith) in
-    ap (λ i. is_between 1 254 (get_or (replicate (suc w) 255) i 0)) at ∙ ap (is_between 1 254) last
+    let at : length {A = ℕ} (replicate (suc w) 255) - 1 ≡ w = omega (arith, length-replicate {A = ℕ} (suc w) 255) in
+    rw at (rw (get_or-replicate {A = ℕ} (suc w) w 255 0 (omega arith)) refl)
 
 and_first : (a b : Bool) → a ≡ false → (a && b) ≡ false
 and_first true b e = cc

@@ -6,7 +6,7 @@ use Rattle.book_plans.proofs.phonebook.Phonebook.free_extension.Goals as goal
 pub returns-in_err-row : goal.returns-in_err-row
 returns-in_err-row c =
     c.from_residual.ensures
-    ∙ sym (c.loop-number.invariant ∙ none_left c.args.self.now.main c.args.self.now.ext c.loop-number.number (extension_rows c.args.self.now.ext) (search (rules, c.in_err-row.ensures tt)))
+    ∙ sym (c.loop-number.invariant ∙ none_left c.args.self.now.main c.args.self.now.ext c.loop-number.number (extension_rows c.args.self.now.ext) (search rules))
 
 pub returns-then-is_free : goal.returns-then-is_free
 returns-then-is_free c =
