@@ -1,3 +1,6 @@
 pub mod Files
 pub mod Names
 pub mod Free
+pub mod Apart
+pub mod Written
+pub mod Back

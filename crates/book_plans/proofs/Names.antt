@@ -77,7 +77,7 @@ pub named_extension-fill : (ext : List (List ℕ)) (w : ℕ) → named_extension
 named_extension-fill ext w =
     let last = get_or (replicate w 255) (length {A = ℕ} (replicate w 255) - 1) 0 in
     none_either (is_free (book_row ext (replicate w 255))) (named_number ext (replicate w 255))
-        (none_by _ last (and_first (is_between 1 254 last) (nat_le last (length ext)) (last_fill w)))
+    (none_by _ last (and_first (is_between 1 254 last) (nat_le last (length ext)) (last_fill w)))
 
 -- some row but this one names the number
 pub is_named_without : (ext rows : List (List ℕ)) (i w n : ℕ) → is_named ext (set rows i (replicate w 255)) n ≡ is_among (set (names_of ext rows) i None) n

@@ -228,7 +228,7 @@ impl<'a> Phonebook<'a> {
     fn named(&self) -> [bool; 256]
         ensures { (number : ℕ) → number < 256 → slice_index_or result number true
             ≡ plans.is_named (books.extension_rows self.now.ext) (books.main_rows self.now.main)
-                number }
+            number }
     {
         marks_of(self.names.as_slice())
     }
@@ -238,7 +238,7 @@ impl<'a> Phonebook<'a> {
         requires range { is_between 1 254 number ≡ true }
         requires named { slice_index_or named.now number true
             ≡ plans.is_named (books.extension_rows self.now.ext) (books.main_rows self.now.main)
-                number }
+            number }
         ensures { result ≡ plans.is_free_extension self.now.main self.now.ext number row.now }
     {
         has_free_type(row) && !named[usize::from(number)]
@@ -265,7 +265,7 @@ impl<'a> Phonebook<'a> {
         requires last { at ≤ length self.now.main.rows }
         ensures { result ≡ ((plans.extension_type self.now.ext number == 0x02)
             && not (plans.is_named (books.extension_rows self.now.ext)
-                (plans.without_row self.now.main at) number)) }
+            (plans.without_row self.now.main at) number)) }
     {
         let others = is_among_others(self.names.as_slice(), usize::from(at) - 1, number);
         extension_type(self.ext, number) == ADDITIONAL_DATA && !others

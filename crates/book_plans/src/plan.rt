@@ -104,7 +104,15 @@ fn plan_set(
         Err(refusal) => Ok(Err(refusal)),
         Ok(extension) => {
             let digits = digits.as_slice();
-            let plan = set_plan(alloc, phonebook, at, name, has_plus(number), digits, extension)?;
+            let plan = set_plan(
+                alloc,
+                phonebook,
+                at,
+                name,
+                has_plus(number),
+                digits,
+                extension,
+            )?;
             Ok(Ok(plan))
         }
     }

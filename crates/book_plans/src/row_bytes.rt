@@ -66,7 +66,11 @@ pub fn released_bytes(alloc: Global, width: u16) -> Result<Bytes, Memory>
 fn type_of(international: bool) -> u8
     ensures { result ≡ (if international then 0x91 else 0x81) }
 {
-    if international { INTERNATIONAL } else { UNKNOWN }
+    if international {
+        INTERNATIONAL
+    } else {
+        UNKNOWN
+    }
 }
 
 /// What stands behind the name of an entry.

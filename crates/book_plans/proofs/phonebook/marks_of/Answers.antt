@@ -11,6 +11,6 @@ pub loop-name-preserved : goal.loop-name-preserved
 loop-name-preserved c = record {
   room = c.mark.array_long;
   marks = λ n small.
-    ap (λ marks. get_or marks n true) c.mark.ensures
-    ∙ marked_more c.args.names.now c.loop-name.named c.loop-name.name-index c.loop-name.invariant.room c.loop-name-test.true c.loop-name.invariant.marks n small;
+      ap (λ marks. get_or marks n true) c.mark.ensures
+      ∙ marked_more c.args.names.now c.loop-name.named c.loop-name.name-index c.loop-name.invariant.room c.loop-name-test.true c.loop-name.invariant.marks n small;
 }
