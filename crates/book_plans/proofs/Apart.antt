@@ -48,7 +48,7 @@ get_other (x ∷ xs) zero (suc j) y apart = refl
 get_other (x ∷ xs) (suc i) zero y apart = refl
 get_other (x ∷ xs) (suc i) (suc j) y apart = get_other xs i j y (λ same. apart (ap suc same))
 
-range_parts : (low high n : ℕ) → is_between low high n ≡ true → (low ≤ n) × (n ≤ high)
+pub range_parts : (low high n : ℕ) → is_between low high n ≡ true → (low ≤ n) × (n ≤ high)
 range_parts low high n e = let parts = and_parts (nat_le low n) (nat_le n high) e in let a = parts.0 in let b = parts.1 in (grind (arith, nat_tests), grind (arith, nat_tests))
 
 row_by : (ext : List (List ℕ)) (n k : ℕ) (r : List ℕ) → is_between 1 254 n ≡ true → k ≢ n → (b : Bool) → is_between 1 254 k ≡ b → extension_row (set ext (n - 1) r) k ≡ extension_row ext k

@@ -81,19 +81,21 @@ parts_by d more e false many =
 -- ---- the number
 
 -- what stands behind the name, and what is read of it beside the extension row that it names
-pub record IsBack (ext : List (List ℕ)) (text f : List ℕ) : Type 0 where
+pub record IsBack (ext : List (List ℕ)) (text f : List ℕ) (x : ℕ) : Type 0 where
   pub wide : length f ≡ 14
   pub readable : is_between 12 254 (get_or f 0 0) ≡ false
   pub number : number_of ext f ≡ text
+  pub others : (m : ℕ) → m ≢ x → m ≢ 255 → get_or f 13 0 ≢ m
 
 back_by : (ext : List (List ℕ)) (text : List ℕ) (x : ℕ) (digits : List ℕ) → digits ≡ without_plus text → bad_digit digits ≡ None → (has_plus text && is_empty digits) ≡ false
-    → additional_of (extension_row ext x) ≡ drop 10 (written_digits digits) → IsBack ext text (number_bytes (has_plus text) (take 10 (written_digits digits)) x)
+    → additional_of (extension_row ext x) ≡ drop 10 (written_digits digits) → IsBack ext text (number_bytes (has_plus text) (take 10 (written_digits digits)) x) x
 back_by ext text x [] is e some further =
     let unsigned : has_plus text ≡ false = alone (has_plus text) some in
     record {
       wide = refl;
       readable = refl;
       number = ap (λ b. cond b (43 ∷ []) [] ++ []) (sym unsigned) ∙ ap (λ digits. cond (has_plus text) (43 ∷ []) [] ++ digits) is ∙ signed_text text;
+      others = λ m named filled same. filled (sym same);
     }
   where
     alone : (b : Bool) → (b && true) ≡ false → b ≡ false
@@ -113,10 +115,11 @@ back_by ext text x (d ∷ more) is e some further =
         ∙ append_assoc sign (read_digits own) (read_digits (drop 10 (written_digits (d ∷ more))))
         ∙ ap (λ digits. sign ++ digits) (parts.both ∙ is)
         ∙ signed_text text;
+      others = λ m named filled same. named (sym same ∙ read.last);
     }
 
 pub number_back : (ext : List (List ℕ)) (text : List ℕ) (x : ℕ) → digit_refusal (without_plus text) ≡ None → (has_plus text && is_empty (without_plus text)) ≡ false
-    → additional_of (extension_row ext x) ≡ drop 10 (written_digits (without_plus text)) → IsBack ext text (number_bytes (has_plus text) (take 10 (written_digits (without_plus text))) x)
+    → additional_of (extension_row ext x) ≡ drop 10 (written_digits (without_plus text)) → IsBack ext text (number_bytes (has_plus text) (take 10 (written_digits (without_plus text))) x) x
 number_back ext text x e some further = back_by ext text x (without_plus text) refl (can_write (without_plus text) e).0 some further
 
 -- ---- the extension row

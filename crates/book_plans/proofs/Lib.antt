@@ -4,3 +4,5 @@ pub mod Free
 pub mod Apart
 pub mod Written
 pub mod Back
+pub mod Behind
+pub mod Makes
