@@ -104,8 +104,8 @@ pub not_free : (row number : List ℕ) → is_empty number ≡ false → is_free
 not_free row number e =
     let entry : AdnEntry = record { name = decode_name (take (length row - 14) row); number = number } in
     unreadable_or (nat_lt (length row) 14) (cond (is_between 12 254 (get_or (footer row) 0 0)) Unreadable (entry_row entry))
-        (unreadable_or (is_between 12 254 (get_or (footer row) 0 0)) (entry_row entry)
-            (entry_by (is_empty (decode_name (take (length row - 14) row)) && is_empty number) entry (and_second (is_empty (decode_name (take (length row - 14) row))) (is_empty number) e)))
+    (unreadable_or (is_between 12 254 (get_or (footer row) 0 0)) (entry_row entry)
+    (entry_by (is_empty (decode_name (take (length row - 14) row)) && is_empty number) entry (and_second (is_empty (decode_name (take (length row - 14) row))) (is_empty number) e)))
 
 -- ---- a row that names another extension row, or none
 
@@ -134,7 +134,7 @@ kept_by ext n r row range within other true none s e =
     cond_true (nat_lt (length row) 14) Unreadable _ s ∙ sym (cond_true (nat_lt (length row) 14) Unreadable _ s)
 kept_by ext n r row range within other false true s e =
     ap (with_number row)
-        (cond_true (is_empty (read_digits (own_bytes (footer row)))) [] _ e ∙ sym (cond_true (is_empty (read_digits (own_bytes (footer row)))) [] _ e))
+    (cond_true (is_empty (read_digits (own_bytes (footer row)))) [] _ e ∙ sym (cond_true (is_empty (read_digits (own_bytes (footer row)))) [] _ e))
 kept_by ext n r row range within other false false s e =
     let last = get_or row (length row - 1) 0 in
     let kept : is_free (book_row ext row) ≡ false = not_free row (number_by (footer row) (extension_row ext (get_or (footer row) 13 0))) (number_is_some (footer row) (extension_row ext (get_or (footer row) 13 0)) e) in

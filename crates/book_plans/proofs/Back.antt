@@ -110,11 +110,11 @@ back_by ext text x (d ∷ more) is e some further =
       wide = read.wide;
       readable = read.readable;
       number =
-        number_read ext (has_plus text) own x parts.some parts.short parts.own
-        ∙ ap (λ rest. signed_digits (has_plus text) (read_digits own) (read_digits rest)) further
-        ∙ append_assoc sign (read_digits own) (read_digits (drop 10 (written_digits (d ∷ more))))
-        ∙ ap (λ digits. sign ++ digits) (parts.both ∙ is)
-        ∙ signed_text text;
+          number_read ext (has_plus text) own x parts.some parts.short parts.own
+          ∙ ap (λ rest. signed_digits (has_plus text) (read_digits own) (read_digits rest)) further
+          ∙ append_assoc sign (read_digits own) (read_digits (drop 10 (written_digits (d ∷ more))))
+          ∙ ap (λ digits. sign ++ digits) (parts.both ∙ is)
+          ∙ signed_text text;
       others = λ m named filled same. named (sym same ∙ read.last);
     }
 

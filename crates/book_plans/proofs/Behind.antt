@@ -152,7 +152,7 @@ names_same ext ext1 (row ∷ rows) count same =
     let rest : map (book_row ext1) rows ≡ map (book_row ext) rows = cc in
     let last = get_or row (length row - 1) 0 in
     let name : named_extension ext1 row ≡ named_extension ext row =
-        ap (λ b. cond (is_free b) None (named_number ext1 row)) first ∙ ap (λ n. cond (is_free (book_row ext row)) None (cond (is_between 1 254 last && nat_le last n) (Some last) None)) count in
+    ap (λ b. cond (is_free b) None (named_number ext1 row)) first ∙ ap (λ n. cond (is_free (book_row ext row)) None (cond (is_between 1 254 last && nat_le last n) (Some last) None)) count in
     let names : names_of ext1 rows ≡ names_of ext rows = names_same ext ext1 rows count rest in
     cc
 
@@ -185,12 +185,12 @@ after_book main ext ext1 at m bytes r behind released other =
     let rows1 : List (List ℕ) = extension_rows ext1 in
     let mains : List (List ℕ) = main_rows main in
     let unnamed : is_named (extension_rows ext1) (set (main_rows main) (at - 1) bytes) m ≡ false =
-        is_named_names rows1 (set mains (at - 1) bytes) m
-        ∙ ap (λ names. is_among names m) (map-set (named_extension rows1) mains (at - 1) bytes)
-        ∙ set_among (names_of rows1 mains) (at - 1) m (named_extension rows1 bytes) other
-        ∙ ap (λ names. is_among (set names (at - 1) None) m) (names_same rows rows1 mains behind.count behind.book)
-        ∙ sym (is_named_without rows mains (at - 1) main.width m)
-        ∙ released.alone in
+    is_named_names rows1 (set mains (at - 1) bytes) m
+    ∙ ap (λ names. is_among names m) (map-set (named_extension rows1) mains (at - 1) bytes)
+    ∙ set_among (names_of rows1 mains) (at - 1) m (named_extension rows1 bytes) other
+    ∙ ap (λ names. is_among (set names (at - 1) None) m) (names_same rows rows1 mains behind.count behind.book)
+    ∙ sym (is_named_without rows mains (at - 1) main.width m)
+    ∙ released.alone in
     let c = behind.count in
     let w = released.within in
     let within : m ≤ length (extension_rows ext1) = omega arith in

@@ -63,7 +63,7 @@ clear_makes files stated at wide target =
     let behind : IsBehind files.main files.ext files.ext = record { book = refl; count = refl } in
     let deciding = decided_book main ext ext (at - 1) (replicate main.width 255) Free behind (freed_row (extension_rows ext) main.width room) ∙ edited_is (book_of files) (Clear stated) at target in
     let other : (m : ℕ) → IsReleased files.main files.ext at m → has_value (λ k. k == m) (named_extension (extension_rows files.ext) (replicate files.main.width 255)) ≡ false =
-        λ m released. ap (has_value (λ k. k == m)) (named_extension-fill (extension_rows files.ext) files.main.width) in
+    λ m released. ap (has_value (λ k. k == m)) (named_extension-fill (extension_rows files.ext) files.main.width) in
     record {
       before = refl;
       deciding = deciding;
@@ -96,12 +96,12 @@ set_ends main ext ext1 stated entry at x can target behind further apart =
     let f : List ℕ = number_bytes (has_plus entry.number) (take 10 (written_digits (without_plus entry.number))) x in
     let back = number_back (extension_rows ext1) entry.number x can.digits can.some further in
     let read : book_row (extension_rows ext1) (row_bytes main entry x) ≡ entry_row entry =
-        parted_row (extension_rows ext1) name f entry.number back.wide back.readable back.number
-        ∙ ap (λ n. entry_row (record { name = n; number = entry.number })) (read_back entry.name (main.width - 14) can.text can.name) in
+    parted_row (extension_rows ext1) name f entry.number back.wide back.readable back.number
+    ∙ ap (λ n. entry_row (record { name = n; number = entry.number })) (read_back entry.name (main.width - 14) can.text can.name) in
     let deciding = decided_book main ext ext1 (at - 1) (row_bytes main entry x) (entry_row entry) behind read ∙ edited_is (decode_book main ext) (Set stated entry) at target in
     let other : (m : ℕ) → IsReleased main ext at m → has_value (λ k. k == m) (named_extension (extension_rows ext1) (row_bytes main entry x)) ≡ false =
-        λ m released. names_other (extension_rows ext1) (row_bytes main entry x) m
-            (λ same. back.others m (apart m released) (λ filled. past_last m (range_parts 1 254 m released.range).1 filled) (sym (last_of name f back.wide) ∙ same)) in
+    λ m released. names_other (extension_rows ext1) (row_bytes main entry x) m
+    (λ same. back.others m (apart m released) (λ filled. past_last m (range_parts 1 254 m released.range).1 filled) (sym (last_of name f back.wide) ∙ same)) in
     record {
       deciding = deciding;
       after = after_by main ext ext1 at (row_bytes main entry x) behind other (released_extension main ext at) refl ∙ deciding;
@@ -117,7 +117,7 @@ none_makes : (files : Files) (stated : Option ℕ) (entry : AdnEntry) (at : ℕ)
 none_makes files stated entry at can target short =
     let behind : IsBehind files.main files.ext files.ext = record { book = refl; count = refl } in
     let ends = set_ends files.main files.ext files.ext stated entry at 255 can target behind (sym (drop_of_length-le (written_digits (without_plus entry.number)) short))
-        (λ m released same. past_last m (range_parts 1 254 m released.range).1 same) in
+    (λ m released same. past_last m (range_parts 1 254 m released.range).1 same) in
     record { before = refl; deciding = ends.deciding; after = ends.after }
   where
     past_last : (m : ℕ) → m ≤ 254 → m ≢ 255
@@ -152,7 +152,7 @@ some_makes files stated entry at n can target free =
     let r : List ℕ = extension_bytes files.ext.width (drop 10 (written_digits (without_plus entry.number))) in
     let behind : IsBehind files.main files.ext (with_row (n - 1) r files.ext) = filled_behind main ext n r free in
     let read : additional_of (extension_row (extension_rows (with_row (n - 1) r files.ext)) n) ≡ drop 10 (written_digits (without_plus entry.number)) =
-        ap additional_of (filled_row ext n r free.range free.within) ∙ additional_back ext.width further (further_length (without_plus entry.number) can.digits) in
+    ap additional_of (filled_row ext n r free.range free.within) ∙ additional_back ext.width further (further_length (without_plus entry.number) can.digits) in
     let ends = set_ends main ext (with_row (n - 1) r ext) stated entry at n can target behind read (λ m released. apart_by main ext at n m free released) in
     record { before = behind.book; deciding = ends.deciding; after = ends.after }
 

@@ -36,9 +36,9 @@ freed_row ext w wide =
     let behind : drop {A = ℕ} (w - 14) (replicate w 255) ≡ replicate 14 255 = drop-replicate (w - 14) w 255 ∙ ap (λ k. replicate k 255) left in
     let long : nat_lt w 14 ≡ false = grind (arith, nat_tests) in
     subst P (sym len)
-        (cond_false (nat_lt w 14) Unreadable _ long
-        ∙ ap (λ f. cond (is_between 12 254 (get_or f 0 0)) Unreadable (entry_row (record { name = decode_name (take (w - 14) (replicate w 255)); number = number_of ext f }))) behind
-        ∙ ap (λ n. entry_row (record { name = n; number = [] })) (ap decode_name name ∙ unnamed (w - 14)))
+    (cond_false (nat_lt w 14) Unreadable _ long
+    ∙ ap (λ f. cond (is_between 12 254 (get_or f 0 0)) Unreadable (entry_row (record { name = decode_name (take (w - 14) (replicate w 255)); number = number_of ext f }))) behind
+    ∙ ap (λ n. entry_row (record { name = n; number = [] })) (ap decode_name name ∙ unnamed (w - 14)))
 
 -- ---- a row that is written
 
@@ -108,7 +108,6 @@ split_any p n xs e =
     let joined : (list_any p (take n xs) || list_any p (drop n xs)) ≡ false = sym (list_any-append p (take n xs) (drop n xs)) ∙ ap (list_any p) (take-append-drop n xs) ∙ e in
     or_parts (list_any p (take n xs)) (list_any p (drop n xs)) joined
 
-
 take_written : (k : ℕ) (digits : List ℕ) → 2 * k ≤ length digits → take k (written_digits digits) ≡ written_digits (take (2 * k) digits)
 take_written k digits h =
     let f : ℕ → ℕ = λ text. unwrap_or (half_of text) 0 in
@@ -135,7 +134,6 @@ read_drop k digits e h =
     ap read_digits (drop_written k digits h) ∙ read_digits_written (drop (2 * k) digits) (no_place p (drop (2 * k) digits) (split_any p (2 * k) digits (none_passes p digits e)).1)
 
 -- ---- what stands behind the name
-
 
 is_read_type : (international : Bool) → (((cond international 0x91 0x81) / 16) % 8 == 1) ≡ international
 is_read_type true = refl
@@ -185,10 +183,10 @@ number_footer international (d ∷ more) x some h =
       wide = omega arith;
       readable = is_unread (length (d ∷ more) + 1) (omega arith);
       digits =
-        cond_true (is_between 2 11 (length (d ∷ more) + 1)) (take (length (d ∷ more) + 1 - 1) (((d ∷ more) ++ replicate (13 - length (counted international (d ∷ more))) 0xFF) ++ x ∷ [])) [] count
-        ∙ ap (λ n. take n (((d ∷ more) ++ replicate (13 - length (counted international (d ∷ more))) 0xFF) ++ x ∷ [])) own_len
-        ∙ ap (take (length (d ∷ more))) (append_assoc (d ∷ more) (replicate (13 - length (counted international (d ∷ more))) 0xFF) (x ∷ []))
-        ∙ take-append_seam (d ∷ more) (replicate (13 - length (counted international (d ∷ more))) 0xFF ++ x ∷ []);
+          cond_true (is_between 2 11 (length (d ∷ more) + 1)) (take (length (d ∷ more) + 1 - 1) (((d ∷ more) ++ replicate (13 - length (counted international (d ∷ more))) 0xFF) ++ x ∷ [])) [] count
+          ∙ ap (λ n. take n (((d ∷ more) ++ replicate (13 - length (counted international (d ∷ more))) 0xFF) ++ x ∷ [])) own_len
+          ∙ ap (take (length (d ∷ more))) (append_assoc (d ∷ more) (replicate (13 - length (counted international (d ∷ more))) 0xFF) (x ∷ []))
+          ∙ take-append_seam (d ∷ more) (replicate (13 - length (counted international (d ∷ more))) 0xFF ++ x ∷ []);
       sign = is_read_type international;
       last = ap (λ n. get_or (filled international (d ∷ more) ++ x ∷ []) n 0) (sym len) ∙ get_or-append_seam (filled international (d ∷ more)) x [] 0;
     }
