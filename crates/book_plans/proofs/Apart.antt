@@ -1,5 +1,5 @@
 -- What stands in an extension row that a main row does not name is nothing to it.
-use Rattle.std.proofs.Common.{◌≡◌, ◌≢◌, ◌<◌, ◌≤◌, ◌+◌, ◌-◌, ◌==◌, ◌&&◌, ◌||◌, ℕ, zero, suc, Bool, true, false, cond, nat_lt, List, [], ◌∷◌, ◌++◌, length, take, drop, get_or, map, Option, Some, None, refl, sym, ap, subst, ◌∙◌, arith, eq-eqb}
+use Rattle.std.proofs.Common.{◌≡◌, ◌≢◌, ◌≤◌, ◌+◌, ◌-◌, ◌==◌, ◌&&◌, ◌||◌, ℕ, zero, suc, Bool, true, false, cond, nat_lt, List, [], ◌∷◌, ◌++◌, length, take, drop, get_or, map, Option, Some, None, refl, sym, ap, subst, ◌∙◌, arith, eq-eqb}
 use Rattle.std.proofs.Math.ListN.{set}
 use Rattle.std.proofs.lemmas.List.{get_or-drop}
 use Rattle.std.proofs.lemmas.Bool.Decides.{nat_tests}
@@ -10,7 +10,7 @@ use Rattle.bcd.specs.Digits.{read_digits}
 use Rattle.adn.specs.declared.entry.AdnEntry.{AdnEntry}
 use Rattle.adn.specs.declared.entry.BookRow.{BookRow}
 use Rattle.adn.specs.declared.entry.BookRow.TheVariants.{Free, Entry, Unreadable}
-use Rattle.adn.specs.Book.{own_bytes, is_international, extension_row, additional_of, signed_digits, number_of, entry_row, book_row}
+use Rattle.adn.specs.Book.{own_bytes, is_international, extension_row, additional_of, signed_digits, entry_row, book_row}
 use Rattle.families.specs.Plans.{is_free, named_number, named_extension, is_named}
 
 -- ---- choices

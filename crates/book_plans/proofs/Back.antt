@@ -1,11 +1,11 @@
 -- An entry that was written is read back.
-use Rattle.std.proofs.Common.{◌≡◌, ◌≢◌, ◌<◌, ◌≤◌, ◌+◌, ◌-◌, ◌*◌, ◌==◌, ◌&&◌, ℕ, zero, suc, Bool, true, false, cond, nat_lt, List, [], ◌∷◌, ◌++◌, length, take, drop, get_or, replicate, Option, Some, None, refl, sym, ap, subst, ◌∙◌, arith, append_assoc, append-nil}
+use Rattle.std.proofs.Common.{◌≡◌, ◌≢◌, ◌<◌, ◌≤◌, ◌-◌, ◌==◌, ◌&&◌, ℕ, Bool, true, false, cond, nat_lt, List, [], ◌∷◌, ◌++◌, length, take, drop, get_or, replicate, Option, Some, None, refl, sym, ap, ◌∙◌, arith, append_assoc, append-nil}
 use Rattle.std.proofs.Math.ListN.{drop_of_length-le}
 use Rattle.std.proofs.lemmas.List.{take_all, take-append-drop, length-take}
 use Rattle.std.proofs.Math.Seq.{take-append_seam}
 use Rattle.std.proofs.lemmas.Bool.{eqb-true}
 use Rattle.std.proofs.lemmas.Bool.Decides.{nat_tests}
-use Rattle.std.specs.Prelude.{nat_le, unwrap_or}
+use Rattle.std.specs.Prelude.{nat_le}
 use Rattle.apdu.specs.Words.{is_between, is_empty}
 use Rattle.bcd.specs.Digits.{read_digits, written_digits, digit_refusal, bad_digit}
 use Rattle.bcd.specs.declared.DigitError.{DigitError}
@@ -13,8 +13,8 @@ use Rattle.bcd.specs.declared.DigitError.TheVariants.{BadDigit, TooMany}
 use Rattle.bcd.proofs.Digits.{read_digits_written}
 use Rattle.adn.specs.Book.{extension_row, additional_bytes, additional_of, signed_digits, number_of}
 use Rattle.families.specs.Plans.{number_bytes, extension_bytes, has_plus, without_plus}
-use Rattle.book_plans.proofs.Apart.{cond_true, cond_false}
-use Rattle.book_plans.proofs.Written.{IsFooter, number_footer, number_read, read_take, read_drop, length_written}
+use Rattle.book_plans.proofs.Apart.{cond_true}
+use Rattle.book_plans.proofs.Written.{number_footer, number_read, read_take, read_drop, length_written}
 
 -- ---- the sign
 

@@ -1,5 +1,5 @@
 -- The book behind each update of a plan.
-use Rattle.std.proofs.Common.{◌≡◌, ◌≢◌, ◌<◌, ◌≤◌, ◌+◌, ◌-◌, ◌==◌, ◌&&◌, ◌||◌, not, ℕ, zero, suc, Bool, true, false, cond, List, [], ◌∷◌, ◌++◌, length, take, drop, get_or, map, replicate, Option, Some, None, refl, sym, ap, subst, ◌∙◌, arith}
+use Rattle.std.proofs.Common.{◌≡◌, ◌≢◌, ◌<◌, ◌≤◌, ◌+◌, ◌-◌, ◌==◌, ◌&&◌, ◌||◌, not, ℕ, zero, suc, Bool, true, false, cond, List, [], ◌∷◌, ◌++◌, length, get_or, map, Option, Some, None, refl, sym, ap, subst, ◌∙◌, arith}
 use Rattle.std.proofs.Math.ListN.{set}
 use Rattle.std.proofs.lemmas.List.{map-set, length-set, length-append, get_or-append-add}
 use Rattle.std.proofs.lemmas.Bool.{eqb-true}
@@ -8,11 +8,11 @@ use Rattle.std.specs.Prelude.{slice_get, nat_le, unwrap_or}
 use Rattle.apdu.specs.Words.{has_value, is_between, is_one_of}
 use Rattle.fcp.specs.Content.{Content, with_row, is_linear}
 use Rattle.adn.specs.declared.entry.BookRow.{BookRow}
-use Rattle.adn.specs.Book.{extension_rows, main_rows, book_row, decode_book, extension_row}
+use Rattle.adn.specs.Book.{extension_rows, main_rows, book_row, decode_book}
 use Rattle.families.specs.Plans.{is_free, named_number, named_extension, is_named, is_free_extension, first_free, free_extension, extension_type, if_released, released_extension, main_row, without_row}
 use Rattle.book_plans.specs.Phonebook.{names_of, is_among}
 use Rattle.book_plans.proofs.Names.{is_named_names, is_named_without}
-use Rattle.book_plans.proofs.Apart.{cond_true, cond_false, and_parts, range_parts, kept_rows}
+use Rattle.book_plans.proofs.Apart.{cond_true, cond_false, and_parts, kept_rows}
 
 -- ---- a row of a file
 

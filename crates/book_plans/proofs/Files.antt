@@ -1,5 +1,5 @@
 -- The rows of files.
-use Rattle.std.proofs.Common.{◌≡◌, ◌≤◌, ℕ, List, [], ◌∷◌, length, true, arith}
+use Rattle.std.proofs.Common.{◌≤◌, ℕ, List, length}
 use Rattle.std.specs.Prelude.{IsTrue}
 use Rattle.fcp.specs.declared.rows.FileKind.{FileKind}
 use Rattle.fcp.specs.declared.rows.FileKind.TheVariants.{Transparent, Linear, Directory}

@@ -1,24 +1,20 @@
 -- What the rows that a plan writes are read as.
-use Rattle.std.proofs.Common.{◌≡◌, ◌≢◌, ◌<◌, ◌≤◌, ◌+◌, ◌-◌, ◌*◌, ◌==◌, ◌&&◌, ◌||◌, ◌/◌, ◌%◌, ℕ, zero, suc, Bool, true, false, cond, not, nat_lt, List, [], ◌∷◌, ◌++◌, length, take, drop, get_or, map, replicate, Option, Some, None, refl, sym, ap, subst, ◌∙◌, arith, append_assoc, append-nil}
-use Rattle.std.proofs.Math.ListN.{set}
-use Rattle.std.proofs.lemmas.List.{take-replicate, drop-replicate, length-replicate, length-append, take_all, take-append-drop, take-map, drop-map, length-map}
+use Rattle.std.proofs.Common.{◌≡◌, ◌≤◌, ◌+◌, ◌-◌, ◌*◌, ◌==◌, ◌||◌, ◌/◌, ◌%◌, ℕ, zero, suc, Bool, true, false, cond, not, nat_lt, List, [], ◌∷◌, ◌++◌, length, take, drop, get_or, map, replicate, Some, None, refl, sym, ap, subst, ◌∙◌, arith, append_assoc}
+use Rattle.std.proofs.lemmas.List.{take-replicate, drop-replicate, length-replicate, length-append, take-append-drop, take-map, drop-map, length-map}
 use Rattle.std.proofs.Math.Seq.{take-append_seam, drop-append_seam, get_or-append_seam}
 use Rattle.std.proofs.lemmas.List.Folds.{list_any-append}
 use Rattle.std.proofs.lemmas.Bool.Decides.{nat_tests}
 use Rattle.std.specs.List.{list_any, position, position_or_len}
 use Rattle.std.specs.Option.{is_none}
-use Rattle.std.specs.Prelude.{slice_get, nat_le, unwrap_or}
-use Rattle.std.specs.Str.{IsUtf8, chars}
-use Rattle.apdu.specs.Words.{has_value, is_between, is_empty, filled_to}
-use Rattle.alpha.specs.Names.{decode_name, encode_name, written_name, name_refusal}
-use Rattle.bcd.specs.Digits.{read_digits, written_digits, digit_refusal, bad_digit, half_of, paired}
+use Rattle.std.specs.Prelude.{unwrap_or}
+use Rattle.apdu.specs.Words.{is_between, is_empty, filled_to}
+use Rattle.alpha.specs.Names.{decode_name}
+use Rattle.bcd.specs.Digits.{read_digits, written_digits, bad_digit, half_of, paired}
 use Rattle.bcd.proofs.Digits.{read_digits_written}
-use Rattle.adn.specs.declared.entry.AdnEntry.{AdnEntry}
-use Rattle.adn.specs.declared.entry.BookRow.{BookRow}
-use Rattle.adn.specs.declared.entry.BookRow.TheVariants.{Free, Entry, Unreadable}
-use Rattle.adn.specs.Book.{own_bytes, is_international, extension_row, additional_bytes, additional_of, signed_digits, number_of, entry_row, book_row}
-use Rattle.families.specs.Plans.{number_bytes, extension_bytes, has_plus, without_plus}
-use Rattle.book_plans.proofs.Apart.{cond_true, cond_false, or_parts, footer, with_number, number_by}
+use Rattle.adn.specs.declared.entry.BookRow.TheVariants.{Free, Unreadable}
+use Rattle.adn.specs.Book.{own_bytes, is_international, extension_row, additional_of, signed_digits, number_of, entry_row, book_row}
+use Rattle.families.specs.Plans.{number_bytes}
+use Rattle.book_plans.proofs.Apart.{cond_true, cond_false, or_parts}
 
 -- ---- a row that is freed
 

@@ -1,7 +1,7 @@
 -- What a plan does to a phonebook, update by update.
-use Rattle.std.specs.Prelude.{◌≡◌, ℕ, ◌-◌, ◌==◌, Bool, true, false, if◌then◌else◌, List, Option, Some, None, Result, IfOk, ⊤}
+use Rattle.std.specs.Prelude.{◌≡◌, ◌-◌, ◌==◌, if◌then◌else◌, List, Option, Some, None, IfOk, ⊤}
 use Rattle.std.specs.Str.{IsUtf8}
-use Rattle.fcp.specs.Content.{Content, with_row}
+use Rattle.fcp.specs.Content.{with_row}
 use Rattle.adn.specs.declared.entry.BookRow.{BookRow}
 use Rattle.adn.specs.declared.edit.Edit.{Edit}
 use Rattle.adn.specs.declared.edit.Edit.TheVariants.{Set, Clear}

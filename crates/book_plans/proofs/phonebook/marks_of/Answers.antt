@@ -1,6 +1,5 @@
-use Rattle.std.proofs.Common.{refl, true, false, take, get_or, length, ◌∙◌, ◌<◌, ◌≡◌, ◌+◌, ℕ, ap, None}
+use Rattle.std.proofs.Common.{refl, true, false, get_or, ◌∙◌, ap}
 use Rattle.std.proofs.lemmas.List.{get_or-replicate}
-use Rattle.book_plans.specs.Phonebook.{is_among}
 use Rattle.book_plans.proofs.Names.{marked_more}
 use Rattle.book_plans.proofs.phonebook.marks_of.Goals as goal
 

@@ -1,4 +1,4 @@
-use Rattle.std.proofs.Common.{rules, ◌∙◌}
+use Rattle.std.proofs.Common.{rules}
 use Rattle.adn.specs.Book.{extension_rows}
 use Rattle.book_plans.proofs.Names.{name_read, names_read}
 use Rattle.book_plans.proofs.phonebook.names_of.Goals as goal
