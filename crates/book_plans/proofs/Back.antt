@@ -50,7 +50,7 @@ written_is_some : (d : ℕ) (more : List ℕ) → is_empty (take 10 (written_dig
 written_is_some d [] = refl
 written_is_some d (e ∷ more) = refl
 
-short_part : (bytes : List ℕ) → length (take 10 bytes) ≤ 10
+pub short_part : (bytes : List ℕ) → length (take 10 bytes) ≤ 10
 short_part bytes = omega (arith, length-take 10 bytes)
 
 parts_by : (d : ℕ) (more : List ℕ) → bad_digit (d ∷ more) ≡ None → (b : Bool) → nat_le (length (d ∷ more)) 20 ≡ b → HasParts (d ∷ more)

@@ -5,4 +5,6 @@ pub mod Apart
 pub mod Written
 pub mod Back
 pub mod Behind
+pub mod Cases
 pub mod Makes
+pub mod Fits

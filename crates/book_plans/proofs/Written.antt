@@ -149,7 +149,7 @@ counted international own = (length own + 1) ∷ cond international 0x91 0x81 �
 abbrev filled : Bool → List ℕ → List ℕ
 filled international own = filled_to 0xFF 13 (counted international own)
 
-filled_to_length : (bytes : List ℕ) (n : ℕ) → length bytes ≤ n → length (filled_to 255 n bytes) ≡ n
+pub filled_to_length : (bytes : List ℕ) (n : ℕ) → length bytes ≤ n → length (filled_to 255 n bytes) ≡ n
 filled_to_length bytes n h =
     let all : length (bytes ++ replicate (n - length bytes) 255) ≡ length bytes + length {A = ℕ} (replicate (n - length bytes) 255) = length-append bytes (replicate (n - length bytes) 255) in
     let fill : length {A = ℕ} (replicate (n - length bytes) 255) ≡ n - length bytes = length-replicate {A = ℕ} (n - length bytes) 255 in
@@ -186,6 +186,10 @@ number_footer international (d ∷ more) x some h =
       sign = is_read_type international;
       last = ap (λ n. get_or (filled international (d ∷ more) ++ x ∷ []) n 0) (sym len) ∙ get_or-append_seam (filled international (d ∷ more)) x [] 0;
     }
+
+pub number_wide : (international : Bool) (own : List ℕ) (x : ℕ) → length own ≤ 10 → length (number_bytes international own x) ≡ 14
+number_wide international [] x h = refl
+number_wide international (d ∷ more) x h = (number_footer international (d ∷ more) x refl h).wide
 
 -- the number that is read of it
 pub number_read : (ext : List (List ℕ)) (international : Bool) (own : List ℕ) (x : ℕ) → is_empty own ≡ false → length own ≤ 10 → is_empty (read_digits own) ≡ false

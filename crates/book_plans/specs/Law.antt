@@ -1,14 +1,14 @@
 -- What a plan does to a phonebook, update by update.
-use Rattle.std.specs.Prelude.{◌≡◌, ◌-◌, ◌==◌, if◌then◌else◌, List, Option, Some, None, IfOk, ⊤}
+use Rattle.std.specs.Prelude.{◌≡◌, ◌≤◌, ◌-◌, ◌==◌, ℕ, All, length, if◌then◌else◌, List, Option, Some, None, IfOk, ⊤}
 use Rattle.std.specs.Str.{IsUtf8}
-use Rattle.fcp.specs.Content.{with_row}
+use Rattle.fcp.specs.Content.{Content, with_row}
 use Rattle.adn.specs.declared.entry.BookRow.{BookRow}
 use Rattle.adn.specs.declared.edit.Edit.{Edit}
 use Rattle.adn.specs.declared.edit.Edit.TheVariants.{Set, Clear}
 use Rattle.adn.specs.declared.edit.RowUpdate.{RowUpdate}
 use Rattle.adn.specs.declared.edit.Plan.{Plan}
 use Rattle.adn.specs.Book.{decode_book}
-use Rattle.families.specs.Plans.{edited, plan_edit}
+use Rattle.families.specs.Plans.{edited, plan_edit, plan_updates}
 use Rattle.book_plans.specs.Phonebook.{Files}
 
 abbrev pub book_of : Files → List BookRow
@@ -42,3 +42,19 @@ HasText (Clear at) = ⊤
 -- each plan makes its edit
 abbrev pub PlansMakeEdits : Type 0
 PlansMakeEdits = (e : Edit) (files : Files) → HasText e → IfOk (plan_edit e files.main files.ext) (Makes files e)
+
+-- the update writes a row that the file has, with as many bytes
+pub record FitsFile (content : Content) (u : RowUpdate) : Type 0 where
+  pub first : 1 ≤ u.row
+  pub last : u.row ≤ length content.rows
+  pub wide : length u.bytes ≡ content.width
+
+abbrev pub file_of : Files → ℕ → Content
+file_of files file = if file == 0 then files.main else files.ext
+
+abbrev pub Fits : Files → RowUpdate → Type 0
+Fits files u = FitsFile (file_of files u.file) u
+
+-- each update of each plan does
+abbrev pub PlansFit : Type 0
+PlansFit = (e : Edit) (files : Files) → IfOk (plan_edit e files.main files.ext) (λ p. All (Fits files) (plan_updates p))

@@ -9,5 +9,5 @@ mod row_bytes;
 mod target;
 mod words;
 
-pub use laws::plans_make_edits;
+pub use laws::{plans_fit, plans_make_edits};
 pub use plan::plan_edit;
