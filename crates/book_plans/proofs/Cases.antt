@@ -1,34 +1,29 @@
 -- What every plan is.
-use Rattle.std.proofs.Common.{◌≡◌, ◌≢◌, ◌<◌, ◌≤◌, ◌+◌, ◌-◌, ◌*◌, ◌==◌, ◌&&◌, ◌||◌, not, ℕ, Bool, true, false, cond, nat_lt, List, [], ◌∷◌, ◌++◌, length, take, drop, get_or, replicate, Option, Some, None, refl, sym, ap, subst, ◌∙◌, arith}
-use Rattle.std.proofs.Math.ListN.{set, drop_of_length-le}
+use Rattle.std.proofs.Common.{◌≡◌, ◌≤◌, ◌-◌, ◌&&◌, ◌||◌, not, ℕ, Bool, true, false, cond, nat_lt, List, length, drop, Option, Some, None, refl, ap, subst, arith}
 use Rattle.std.proofs.lemmas.List.{length-drop}
 use Rattle.std.proofs.lemmas.Bool.Decides.{nat_tests}
-use Rattle.std.specs.Prelude.{slice_get, nat_le, unwrap_or, option_map, Result, Ok, Err, IfOk}
-use Rattle.std.specs.Str.{IsUtf8, chars}
-use Rattle.apdu.specs.Words.{has_value, is_between, is_empty, is_one_of}
-use Rattle.fcp.specs.Content.{Content, with_row, is_linear}
-use Rattle.alpha.specs.Names.{encode_name, decode_name, name_refusal}
+use Rattle.std.specs.Prelude.{nat_le, Result, Ok, Err, IfOk}
+use Rattle.std.specs.Str.{chars}
+use Rattle.apdu.specs.Words.{is_between, is_empty}
+use Rattle.fcp.specs.Content.{Content, is_linear}
+use Rattle.alpha.specs.Names.{encode_name, name_refusal}
 use Rattle.alpha.specs.declared.encode.AlphaError.{AlphaError}
-use Rattle.alpha.proofs.ReadBack.{read_back}
 use Rattle.bcd.specs.Digits.{written_digits, digit_refusal}
 use Rattle.bcd.specs.declared.DigitError.{DigitError}
 use Rattle.adn.specs.declared.entry.AdnEntry.{AdnEntry}
-use Rattle.adn.specs.declared.entry.BookRow.{BookRow}
-use Rattle.adn.specs.declared.entry.BookRow.TheVariants.{Free}
 use Rattle.adn.specs.declared.edit.Edit.{Edit}
 use Rattle.adn.specs.declared.edit.Edit.TheVariants.{Set, Clear}
 use Rattle.adn.specs.declared.edit.Plan.{Plan}
 use Rattle.adn.specs.declared.edit.PlanError.{PlanError}
 use Rattle.adn.specs.declared.edit.PlanError.TheVariants.{BadFile, NoRecord, BadDigit}
-use Rattle.adn.specs.Book.{extension_rows, book_row, decode_book, extension_row, additional_of, entry_row}
-use Rattle.families.specs.Plans.{◌>>=◌, target_of, new_row, with_target, edited, row_from_target, row_to_edit, named_extension, free_extension, extension_type, released_extension, extension_bytes, released_bytes, number_bytes, has_plus, without_plus, digits_or, name_or, update_of, extension_or_full, extension_for, planned_after, set_plan, clear_plan, plan_at, plan_edit, digit_bytes}
+use Rattle.adn.specs.Book.{extension_rows}
+use Rattle.families.specs.Plans.{◌>>=◌, target_of, row_from_target, row_to_edit, free_extension, has_plus, without_plus, digits_or, name_or, extension_or_full, extension_for, set_plan, clear_plan, plan_at, plan_edit, digit_bytes}
 use Rattle.book_plans.specs.Phonebook.{Files}
-use Rattle.book_plans.specs.Law.{book_of, written, written_some, decided, Makes, HasText, PlansMakeEdits}
-use Rattle.book_plans.proofs.Names.{named_extension-fill}
-use Rattle.book_plans.proofs.Apart.{cond_true, or_parts, range_parts}
-use Rattle.book_plans.proofs.Written.{freed_row, parted_row, length_written}
-use Rattle.book_plans.proofs.Back.{IsBack, number_back, can_write, additional_back}
-use Rattle.book_plans.proofs.Behind.{ext_with, get_same, IsFree, free_is, IsReleased, released_is, IsBehind, filled_behind, decided_book, names_other, last_of, after_book}
+use Rattle.book_plans.specs.Law.{book_of}
+use Rattle.book_plans.proofs.Apart.{or_parts}
+use Rattle.book_plans.proofs.Written.{length_written}
+use Rattle.book_plans.proofs.Back.{can_write}
+use Rattle.book_plans.proofs.Behind.{IsFree, free_is}
 
 -- ---- the row of an edit
 

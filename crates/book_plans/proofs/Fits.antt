@@ -1,5 +1,5 @@
 -- Each update of a plan writes a row that its file has, with as many bytes.
-use Rattle.std.proofs.Common.{◌≡◌, ◌<◌, ◌≤◌, ◌+◌, ◌-◌, ◌&&◌, ℕ, Bool, true, false, cond, nat_lt, List, [], ◌∷◌, ◌++◌, length, take, drop, replicate, Option, Some, None, refl, sym, ap, ◌∙◌, arith}
+use Rattle.std.proofs.Common.{◌≡◌, ◌≤◌, ◌+◌, ◌-◌, ◌&&◌, ℕ, Bool, true, false, cond, nat_lt, List, [], ◌∷◌, ◌++◌, length, take, drop, replicate, Option, Some, None, refl, arith}
 use Rattle.std.proofs.lemmas.List.{length-append, length-replicate}
 use Rattle.std.proofs.lemmas.List.Elements.{All-cons, All-nil}
 use Rattle.std.proofs.lemmas.Bool.Decides.{nat_tests}
@@ -7,23 +7,21 @@ use Rattle.std.specs.Prelude.{nat_le, option_map, All}
 use Rattle.std.specs.Str.{chars}
 use Rattle.apdu.specs.Words.{is_between}
 use Rattle.fcp.specs.Content.{Content, is_linear}
-use Rattle.alpha.specs.declared.encode.AlphaError.{AlphaError}
 use Rattle.alpha.specs.declared.encode.AlphaError.TheVariants.{TooLong}
 use Rattle.alpha.specs.Names.{encode_name, written_name, name_refusal, not_writable, refusal_of}
 use Rattle.bcd.specs.Digits.{written_digits}
 use Rattle.adn.specs.declared.entry.AdnEntry.{AdnEntry}
 use Rattle.adn.specs.declared.edit.Edit.{Edit}
 use Rattle.adn.specs.declared.edit.Edit.TheVariants.{Set, Clear}
-use Rattle.adn.specs.declared.edit.RowUpdate.{RowUpdate}
 use Rattle.adn.specs.Book.{extension_rows}
-use Rattle.families.specs.Plans.{extension_bytes, released_bytes, number_bytes, has_plus, without_plus, update_of, released_extension, planned_after, set_plan, clear_plan, plan_updates, some_first}
+use Rattle.families.specs.Plans.{extension_bytes, released_bytes, number_bytes, has_plus, without_plus, update_of, released_extension, planned_after, plan_updates, some_first}
 use Rattle.book_plans.specs.Phonebook.{Files}
-use Rattle.book_plans.specs.Law.{FitsFile, file_of, Fits, PlansFit}
-use Rattle.book_plans.proofs.Apart.{cond_true, cond_false, and_parts, range_parts}
+use Rattle.book_plans.specs.Law.{FitsFile, Fits, PlansFit}
+use Rattle.book_plans.proofs.Apart.{and_parts, range_parts}
 use Rattle.book_plans.proofs.Written.{filled_to_length, number_wide}
 use Rattle.book_plans.proofs.Back.{short_part}
-use Rattle.book_plans.proofs.Behind.{IsFree, IsReleased, released_is}
-use Rattle.book_plans.proofs.Cases.{IsRow, CanWrite, SetCases, AtCases, plan_cases, further_length}
+use Rattle.book_plans.proofs.Behind.{IsFree, released_is}
+use Rattle.book_plans.proofs.Cases.{IsRow, CanWrite, AtCases, plan_cases, further_length}
 
 -- ---- extension rows
 
@@ -47,7 +45,7 @@ after_fits files at (Some m) e =
     let w = there.wide in
     let one : length {A = ℕ} (0x00 ∷ []) ≤ files.ext.width = omega arith in
     All-cons (Fits files) (update_of 1 m (released_bytes files.ext.width)) []
-        (record { first = (range_parts 1 254 m released.range).0; last = there.within; wide = filled_to_length (0x00 ∷ []) files.ext.width one }) (All-nil (Fits files))
+    (record { first = (range_parts 1 254 m released.range).0; last = there.within; wide = filled_to_length (0x00 ∷ []) files.ext.width one }) (All-nil (Fits files))
 
 filled_fits : (files : Files) (n : ℕ) (further : List ℕ) → IsFree files.main files.ext n → length further ≤ 10 → FitsFile files.ext (update_of 1 n (extension_bytes files.ext.width further))
 filled_fits files n further free short =
@@ -104,9 +102,9 @@ at_fits (Clear stated) files at row = rest_fit files at (replicate files.main.wi
 at_fits (Set stated entry) files at row = record {
   none = λ can short. rest_fit files at (entry_row_bytes files.main entry 255) (entry_fits files (Set stated entry) entry at 255 row can);
   some = λ n can free.
-    All-cons (Fits files) (update_of 1 n (extension_bytes files.ext.width (drop 10 (written_digits (without_plus entry.number))))) (update_of 0 at (entry_row_bytes files.main entry n) ∷ some_first (planned_after files.main files.ext at) [])
-        (filled_fits files n (drop 10 (written_digits (without_plus entry.number))) free (further_length (without_plus entry.number) can.digits))
-        (rest_fit files at (entry_row_bytes files.main entry n) (entry_fits files (Set stated entry) entry at n row can));
+      All-cons (Fits files) (update_of 1 n (extension_bytes files.ext.width (drop 10 (written_digits (without_plus entry.number))))) (update_of 0 at (entry_row_bytes files.main entry n) ∷ some_first (planned_after files.main files.ext at) [])
+      (filled_fits files n (drop 10 (written_digits (without_plus entry.number))) free (further_length (without_plus entry.number) can.digits))
+      (rest_fit files at (entry_row_bytes files.main entry n) (entry_fits files (Set stated entry) entry at n row can));
 }
 
 pub plans_fit : PlansFit

@@ -1,35 +1,29 @@
 -- Each plan makes its edit.
-use Rattle.std.proofs.Common.{◌≡◌, ◌≢◌, ◌<◌, ◌≤◌, ◌+◌, ◌-◌, ◌*◌, ◌==◌, ◌&&◌, ◌||◌, not, ℕ, Bool, true, false, cond, nat_lt, List, [], ◌∷◌, ◌++◌, length, take, drop, get_or, replicate, Option, Some, None, refl, sym, ap, subst, ◌∙◌, arith}
+use Rattle.std.proofs.Common.{◌≡◌, ◌≢◌, ◌≤◌, ◌-◌, ◌==◌, ℕ, true, false, nat_lt, List, [], ◌∷◌, ◌++◌, length, take, drop, replicate, Option, Some, None, refl, sym, ap, subst, ◌∙◌, arith}
 use Rattle.std.proofs.Math.ListN.{set, drop_of_length-le}
-use Rattle.std.proofs.lemmas.List.{length-drop}
 use Rattle.std.proofs.lemmas.Bool.Decides.{nat_tests}
-use Rattle.std.specs.Prelude.{slice_get, nat_le, unwrap_or, option_map, Result, Ok, Err, IfOk}
-use Rattle.std.specs.Str.{IsUtf8, chars}
-use Rattle.apdu.specs.Words.{has_value, is_between, is_empty, is_one_of}
-use Rattle.fcp.specs.Content.{Content, with_row, is_linear}
-use Rattle.alpha.specs.Names.{encode_name, decode_name, name_refusal}
-use Rattle.alpha.specs.declared.encode.AlphaError.{AlphaError}
+use Rattle.std.specs.Prelude.{slice_get, option_map}
+use Rattle.std.specs.Str.{IsUtf8}
+use Rattle.apdu.specs.Words.{has_value, is_between, is_one_of}
+use Rattle.fcp.specs.Content.{Content, with_row}
+use Rattle.alpha.specs.Names.{encode_name}
 use Rattle.alpha.proofs.ReadBack.{read_back}
-use Rattle.bcd.specs.Digits.{written_digits, digit_refusal}
-use Rattle.bcd.specs.declared.DigitError.{DigitError}
+use Rattle.bcd.specs.Digits.{written_digits}
 use Rattle.adn.specs.declared.entry.AdnEntry.{AdnEntry}
 use Rattle.adn.specs.declared.entry.BookRow.{BookRow}
 use Rattle.adn.specs.declared.entry.BookRow.TheVariants.{Free}
 use Rattle.adn.specs.declared.edit.Edit.{Edit}
 use Rattle.adn.specs.declared.edit.Edit.TheVariants.{Set, Clear}
-use Rattle.adn.specs.declared.edit.Plan.{Plan}
-use Rattle.adn.specs.declared.edit.PlanError.{PlanError}
-use Rattle.adn.specs.declared.edit.PlanError.TheVariants.{BadFile, NoRecord, BadDigit}
 use Rattle.adn.specs.Book.{extension_rows, book_row, decode_book, extension_row, additional_of, entry_row}
-use Rattle.families.specs.Plans.{◌>>=◌, target_of, new_row, with_target, edited, row_from_target, row_to_edit, named_extension, free_extension, extension_type, released_extension, extension_bytes, released_bytes, number_bytes, has_plus, without_plus, digits_or, name_or, update_of, extension_or_full, extension_for, planned_after, set_plan, clear_plan, plan_at, plan_edit, digit_bytes}
+use Rattle.families.specs.Plans.{target_of, new_row, with_target, edited, named_extension, extension_type, released_extension, extension_bytes, released_bytes, number_bytes, has_plus, without_plus, update_of, planned_after, set_plan, clear_plan}
 use Rattle.book_plans.specs.Phonebook.{Files}
-use Rattle.book_plans.specs.Law.{book_of, written, written_some, decided, Makes, HasText, PlansMakeEdits}
+use Rattle.book_plans.specs.Law.{book_of, written_some, Makes, HasText, PlansMakeEdits}
 use Rattle.book_plans.proofs.Names.{named_extension-fill}
-use Rattle.book_plans.proofs.Apart.{cond_true, or_parts, range_parts}
-use Rattle.book_plans.proofs.Written.{freed_row, parted_row, length_written}
-use Rattle.book_plans.proofs.Back.{IsBack, number_back, can_write, additional_back}
-use Rattle.book_plans.proofs.Cases.{IsRow, CanWrite, SetCases, AtCases, further_length, plan_cases}
-use Rattle.book_plans.proofs.Behind.{ext_with, get_same, IsFree, free_is, IsReleased, released_is, IsBehind, filled_behind, decided_book, names_other, last_of, after_book}
+use Rattle.book_plans.proofs.Apart.{cond_true, range_parts}
+use Rattle.book_plans.proofs.Written.{freed_row, parted_row}
+use Rattle.book_plans.proofs.Back.{number_back, additional_back}
+use Rattle.book_plans.proofs.Cases.{IsRow, CanWrite, AtCases, further_length, plan_cases}
+use Rattle.book_plans.proofs.Behind.{ext_with, get_same, IsFree, IsReleased, released_is, IsBehind, filled_behind, decided_book, names_other, last_of, after_book}
 
 edited_is : (book : List BookRow) (e : Edit) (at : ℕ) → target_of book e ≡ Some at → set book (at - 1) (new_row e) ≡ edited book e
 edited_is book e at target = ap (λ t. with_target book t (new_row e)) (sym target)

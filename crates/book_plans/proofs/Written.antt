@@ -1,6 +1,6 @@
 -- What the rows that a plan writes are read as.
 use Rattle.std.proofs.Common.{◌≡◌, ◌≤◌, ◌+◌, ◌-◌, ◌*◌, ◌==◌, ◌||◌, ◌/◌, ◌%◌, ℕ, zero, suc, Bool, true, false, cond, not, nat_lt, List, [], ◌∷◌, ◌++◌, length, take, drop, get_or, map, replicate, Some, None, refl, sym, ap, subst, ◌∙◌, arith, append_assoc}
-use Rattle.std.proofs.lemmas.List.{take-replicate, drop-replicate, length-replicate, length-append, take-append-drop, take-map, drop-map, length-map}
+use Rattle.std.proofs.lemmas.List.{replicate-append-replicate, length-replicate, length-append, take-append-drop, take-map, drop-map, length-map}
 use Rattle.std.proofs.Math.Seq.{take-append_seam, drop-append_seam, get_or-append_seam}
 use Rattle.std.proofs.lemmas.List.Folds.{list_any-append}
 use Rattle.std.proofs.lemmas.Bool.Decides.{nat_tests}
@@ -15,26 +15,6 @@ use Rattle.adn.specs.declared.entry.BookRow.TheVariants.{Free, Unreadable}
 use Rattle.adn.specs.Book.{own_bytes, is_international, extension_row, additional_of, signed_digits, number_of, entry_row, book_row}
 use Rattle.families.specs.Plans.{number_bytes}
 use Rattle.book_plans.proofs.Apart.{cond_true, cond_false, or_parts}
-
--- ---- a row that is freed
-
-unnamed : (k : ℕ) → decode_name (replicate k 255) ≡ []
-unnamed zero = refl
-unnamed (suc k) = refl
-
--- a row of FF is free
-pub freed_row : (ext : List (List ℕ)) (w : ℕ) → 14 ≤ w → book_row ext (replicate w 255) ≡ Free
-freed_row ext w wide =
-    let len : length {A = ℕ} (replicate w 255) ≡ w = length-replicate w 255 in
-    let P : ℕ → Type 0 = λ n. cond (nat_lt n 14) Unreadable (cond (is_between 12 254 (get_or (drop (n - 14) (replicate w 255)) 0 0)) Unreadable (entry_row (record { name = decode_name (take (n - 14) (replicate w 255)); number = number_of ext (drop (n - 14) (replicate w 255)) }))) ≡ Free in
-    let name : take {A = ℕ} (w - 14) (replicate w 255) ≡ replicate (w - 14) 255 = take-replicate (w - 14) w 255 (omega arith) in
-    let left : w - (w - 14) ≡ 14 = omega arith in
-    let behind : drop {A = ℕ} (w - 14) (replicate w 255) ≡ replicate 14 255 = drop-replicate (w - 14) w 255 ∙ ap (λ k. replicate k 255) left in
-    let long : nat_lt w 14 ≡ false = grind (arith, nat_tests) in
-    subst P (sym len)
-    (cond_false (nat_lt w 14) Unreadable _ long
-    ∙ ap (λ f. cond (is_between 12 254 (get_or f 0 0)) Unreadable (entry_row (record { name = decode_name (take (w - 14) (replicate w 255)); number = number_of ext f }))) behind
-    ∙ ap (λ n. entry_row (record { name = n; number = [] })) (ap decode_name name ∙ unnamed (w - 14)))
 
 -- ---- a row that is written
 
@@ -51,6 +31,21 @@ parted_row ext name f number len readable is =
     ∙ cond_false (is_between 12 254 (get_or f 0 0)) Unreadable _ readable
     ∙ ap (λ n. entry_row (record { name = decode_name n; number = number_of ext f })) (take-append_seam name f)
     ∙ ap (λ n. entry_row (record { name = decode_name name; number = n })) is
+
+-- ---- a row that is freed
+
+unnamed : (k : ℕ) → decode_name (replicate k 255) ≡ []
+unnamed zero = refl
+unnamed (suc k) = refl
+
+-- a row of FF is free
+pub freed_row : (ext : List (List ℕ)) (w : ℕ) → 14 ≤ w → book_row ext (replicate w 255) ≡ Free
+freed_row ext w wide =
+    let all : w - 14 + 14 ≡ w = omega arith in
+    let parts : replicate (w - 14) 255 ++ replicate 14 255 ≡ replicate w 255 = replicate-append-replicate (w - 14) 14 255 ∙ ap (λ n. replicate n 255) all in
+    ap (book_row ext) (sym parts)
+    ∙ parted_row ext (replicate (w - 14) 255) (replicate 14 255) [] refl refl refl
+    ∙ ap (λ name. entry_row (record { name = name; number = [] })) (unnamed (w - 14))
 
 -- ---- halves of digits
 
