@@ -5,16 +5,13 @@ ghost use Rattle.adn.specs.declared.edit.Edit.TheVariants as edit_kind;
 ghost use Rattle.families.specs.Plans as plans;
 
 use crate::phonebook::{Phonebook, linear_count};
-use crate::row_bytes::{extension_bytes, free_row, number_bytes, released_bytes};
+use crate::row_bytes::{FOOTER_LEN, extension_bytes, free_row, number_bytes, released_bytes};
 use crate::target::{row_from_target, target_of};
 use crate::words::{digit_bytes, has_plus, name_bytes};
 use adn::{AdnEntry, BookRow, Edit, Plan, PlanError, RowUpdate, decode_book};
 use apdu::{Bytes, Memory};
 use fcp::{FileKind, Rows};
 use std::alloc::Global;
-
-/// The bytes of a row behind its name.
-const FOOTER_LEN: u16 = 14;
 
 /// The bytes of digits that a main row holds.
 const OWN_DIGITS: usize = 10;

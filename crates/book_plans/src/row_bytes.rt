@@ -18,7 +18,10 @@ const INTERNATIONAL: u8 = 0x91;
 
 const UNKNOWN: u8 = 0x81;
 
-/// The bytes of a number and of what goes with it, up to the number of the extension row.
+/// The bytes of a row behind its name.
+pub const FOOTER_LEN: u16 = 14;
+
+/// Those of them before the number of the extension row.
 const NUMBER_LEN: usize = 13;
 
 /// FF up to the length.
@@ -85,7 +88,7 @@ pub fn number_bytes(
         ≡ plans.number_bytes international digits.now extension) }
 {
     if digits.is_empty() {
-        return free_row(alloc, 14);
+        return free_row(alloc, FOOTER_LEN);
     }
     let mut bytes = Vec::new(alloc);
     bytes.push(digits.len() as u8 + 1)?;
