@@ -22,5 +22,6 @@ mod standings;
 mod tracker;
 mod turn;
 
-pub use family::family_at;
+pub use family::{family_at, family_of_begun};
+pub use own::fresh_begun;
 pub use tracker::Tracker;
