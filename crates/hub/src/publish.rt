@@ -20,6 +20,7 @@ use std::alloc::Global;
 use tracker::{family_at, family_of_begun, fresh_begun};
 
 /// The files that are current.
+#[derive(Drop)]
 struct Current<'a> {
     files: &'a CachedFiles,
 }
