@@ -1,0 +1,6 @@
+mod Counts
+mod MeasureSays
+mod MeasureShape
+mod MeasureBegun
+mod MeasureNumbers
+mod Measure
