@@ -22,6 +22,5 @@ mod standings;
 mod tracker;
 mod turn;
 
-pub use family::{family_at, family_of_begun};
-pub use own::fresh_begun;
+pub use family::family_at;
 pub use tracker::Tracker;
