@@ -15,9 +15,9 @@ use families::{ContentText, Families, Standard};
 use fcp::{FileView, Rows};
 use planner::{begun_of, operation_at};
 use rules::Kept;
-use script::Script;
+use script::{Operation, Script};
 use std::alloc::Global;
-use tracker::{family_at, family_of_begun, fresh_begun};
+use tracker::family_at;
 
 /// The files that are current.
 #[derive(Drop)]
@@ -63,11 +63,13 @@ pub fn text_of(alloc: Global, family: u8, kept: &Kept) -> Result<Text, Memory>
 
 // ---- before any event of a turn
 
-fn family_anew(alloc: Global, script: &Script, kept: &Kept, actor: u8, op: u32) -> Option<u8>
+fn family_anew(script: &Script, kept: &Kept, actor: u8, op: u32) -> Option<u8>
     ensures { result ≡ ready.family_anew script.now kept.now actor op }
 {
-    let begun = fresh_begun(alloc, op, kept.history);
-    family_of_begun(kept, Some(&begun), operation_at(script, actor, op))
+    match operation_at(script, actor, op) {
+        Some(Operation::Load { family }) if kept.history.living => Some(*family),
+        _ => None,
+    }
 }
 
 fn answered_of(actor: u8, kept: &Kept) -> u32
@@ -79,21 +81,21 @@ fn answered_of(actor: u8, kept: &Kept) -> u32
     }
 }
 
-fn family_next(alloc: Global, script: &Script, kept: &Kept, actor: u8) -> Option<u8>
+fn family_next(script: &Script, kept: &Kept, actor: u8) -> Option<u8>
     ensures { result ≡ ready.family_next script.now kept.now actor }
 {
     if actor == 0 || begun_of(actor, &kept.jobs).is_some() {
         family_at(script, actor, kept)
     } else {
-        family_anew(alloc, script, kept, actor, answered_of(actor, kept))
+        family_anew(script, kept, actor, answered_of(actor, kept))
     }
 }
 
 /// The family that a turn of the actor publishes before any event of its own.
-pub fn family_ready(alloc: Global, script: &Script, kept: &Kept, actor: u8) -> Option<u8>
+pub fn family_ready(script: &Script, kept: &Kept, actor: u8) -> Option<u8>
     ensures { result ≡ ready.family_ready script.now kept.now actor }
 {
-    let family = family_next(alloc, script, kept, actor)?;
+    let family = family_next(script, kept, actor)?;
     if all_current(&kept.files, family_paths(family).as_slice()) {
         Some(family)
     } else {

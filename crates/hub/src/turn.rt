@@ -90,7 +90,7 @@ impl<S: ScriptedSlot> Engine<S> {
             return Err(Memory);
         }
         let kept = self.tracker.kept();
-        match family_ready(self.alloc, &self.script, kept, actor) {
+        match family_ready(&self.script, kept, actor) {
             None => {
                 self.lines.reserve(LINES_OF_TURN, BYTES_OF_TURN)?;
                 Ok(None)
