@@ -4,3 +4,8 @@ mod MeasureShape
 mod MeasureBegun
 mod MeasureNumbers
 mod Measure
+mod CalmLent
+mod CalmSends
+mod CalmArmed
+mod CalmCards
+mod CalmRest
