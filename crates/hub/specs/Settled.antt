@@ -34,12 +34,12 @@ pub record IsPlanOf (s : Script) (k : Kept) (p : Plan) : Type 0 where
   pub calls : p.calls ≡ k.history.calls
 
 -- the lines of a script that is served: each was due, and where the slot tells its world and its plan, they are those of the lines
-pub record AreServed (s : Script) (lines : List Line) (world : Option World) (plan : Option Plan) : Type 0 where
+pub record AreServed (s : Script) (lines : List Line) (w : Option World) (p : Option Plan) : Type 0 where
   pub rules : keeps_rules s ≡ true
   pub served : serves s ≡ true
   pub followed : are_followed s lines ≡ true
-  pub world : IfSome world (IsWorldOf s lines)
-  pub plan : IfSome plan (IsPlanOf s (kept_of s lines))
+  pub world : IfSome w (IsWorldOf s lines)
+  pub plan : IfSome p (IsPlanOf s (kept_of s lines))
 
 -- so are the lines of the parts, and the tracker keeps what they say
 pub record IsTied (p : Parts) : Type 0 where
@@ -97,11 +97,11 @@ most_of_text None = 0
 most_of_text (Some text) = 32 + length text
 
 -- the text that the turn publishes before any event of its own, and room for all lines of the turn, beside further texts
-pub record IsPrepared (a : ℕ) (ready : Option (List ℕ)) (p : Parts) : Type 0 where
-  pub ready : ready ≡ option_map (λ f. kept_text f p.kept) (family_ready p.script p.kept a)
+pub record IsPrepared (a : ℕ) (text : Option (List ℕ)) (p : Parts) : Type 0 where
+  pub ready : text ≡ option_map (λ f. kept_text f p.kept) (family_ready p.script p.kept a)
   pub few : length p.lines.lines + 512 < 2 ^ 64
   pub spare : 98 ≤ p.lines.spare
-  pub spare_bytes : 59008 + most_of_text ready ≤ p.lines.spare_bytes
+  pub spare_bytes : 59008 + most_of_text text ≤ p.lines.spare_bytes
 
 -- ---- within a turn
 
@@ -129,15 +129,15 @@ IsReady a s before k (Some text) = (k.history.events ≡ before.history.events) 
 IsReady a s before k None = (family_ready s before a ≡ None) ⊎ ((before.history.events < k.history.events) ⊎ (is_some k.turn.published ≡ true))
 
 -- a turn of the actor is under way behind these lines, and has room for all that it can still add
-pub record IsTurning (a : ℕ) (earlier : List Line) (ready : Option (List ℕ)) (p : Parts) : Type 0 where
+pub record IsTurning (a : ℕ) (earlier : List Line) (text : Option (List ℕ)) (p : Parts) : Type 0 where
   pub tied : IsTied p
   pub turn : AddsTurn a earlier p.lines.lines
   pub awake : is_idle p.script (kept_of p.script earlier) a ≡ false
-  pub ready : IsReady a p.script (kept_of p.script earlier) p.kept ready
+  pub ready : IsReady a p.script (kept_of p.script earlier) p.kept text
   pub few : length p.lines.lines + steps_left p.kept + 1 < 2 ^ 64
   pub steps : steps_left p.kept ≤ 96
   pub spare : steps_left p.kept + 1 ≤ p.lines.spare
-  pub spare_bytes : 608 * (steps_left p.kept + 1) + most_of_text ready ≤ p.lines.spare_bytes
+  pub spare_bytes : 608 * (steps_left p.kept + 1) + most_of_text text ≤ p.lines.spare_bytes
 
 -- ---- behind a turn
 
