@@ -1,5 +1,5 @@
 -- What opening and closing a channel sends, and what it comes to, ETSI TS 102 221 clauses 8.7, 11.1.1 and 11.1.17.
-use Rattle.std.specs.Prelude.{◌≡◌, ◌≤◌, ℕ, ◌==◌, Bool, false, if◌then◌else◌, List, [], ◌∷◌, ◌++◌, Option, Some, None, Result, Ok, Err}
+use Rattle.std.specs.Prelude.{◌≡◌, ◌≤◌, ℕ, ◌==◌, Bool, true, false, if◌then◌else◌, List, [], ◌∷◌, ◌++◌, Option, Some, None, Result, Ok, Err}
 use Rattle.apdu.specs.Values.{CommandValue, ResponseValue}
 use Rattle.apdu.specs.Apdu.{is_success}
 use Rattle.apdu.specs.Stream.{Rose}
@@ -26,6 +26,11 @@ refused sw = if sw == no_channel_left then refusal.Exhausted else refusal.Status
 abbrev pub unanswered : LinkError → OpenError
 unanswered linked.Slot = refusal.Slot
 unanswered (linked.Loop sw) = refusal.Loop sw
+
+-- an exchange failed
+abbrev pub is_fault : OpenError → Bool
+is_fault refusal.Slot = true
+is_fault _ = false
 
 -- the channel that MANAGE CHANNEL opened: on success one byte, which no held channel has
 abbrev pub assigned : List ℕ → ResponseValue → Option ℕ
@@ -75,8 +80,7 @@ behind_refusal e (Some (answer, steps)) = Some (Err (closed_again e answer), ste
 -- a SELECT that was refused is followed by the close, one that failed by nothing
 abbrev pub behind_answer : ℕ → Result (Unit {0}) OpenError → List Step → Option (Result (Unit {0}) OpenError × List Step)
 behind_answer n (Ok u) steps = Some (Ok u, steps)
-behind_answer n (Err refusal.Slot) steps = Some (Err refusal.Slot, steps)
-behind_answer n (Err e) steps = behind_refusal e (exchanged (close_command n) None steps)
+behind_answer n (Err e) steps = if is_fault e then Some (Err e, steps) else behind_refusal e (exchanged (close_command n) None steps)
 
 abbrev pub behind_select : ℕ → Option (Result ResponseValue LinkError × List Step) → Option (Result (Unit {0}) OpenError × List Step)
 behind_select n None = None
@@ -102,6 +106,11 @@ behind_open epoch aid (Some (given, steps)) = behind_number epoch aid given step
 -- MANAGE CHANNEL, and SELECT on the channel that it gave, which is closed again where SELECT is refused
 abbrev pub opened : ℕ → List ℕ → List ℕ → List Step → Option (Result ChannelValue OpenError × List Step)
 opened epoch held aid steps = behind_open epoch aid (assigning held steps)
+
+-- the channels held behind it
+abbrev pub held_with : Result ChannelValue OpenError → List ℕ → List ℕ
+held_with (Ok channel) held = held ++ channel.number ∷ []
+held_with (Err e) held = held
 
 -- ---- what a close comes to
 
@@ -129,11 +138,6 @@ held_behind channel living held = if is_living channel.epoch living then without
 pub record OpensOrFaults {T : Type 0} (before now : ℕ) (result : Result T OpenError) : Type 0 where
   pub later : before ≤ now
   pub failed : result ≡ Err refusal.Slot → Rose before now
-
--- an answer that was no fault yet came to be one
-pub record FaultsBy (before now : ℕ) (first result : OpenError) : Type 0 where
-  pub later : before ≤ now
-  pub failed : result ≡ refusal.Slot → (first ≡ refusal.Slot → ⊥) → Rose before now
 
 pub record ClosesOrFaults (before now : ℕ) (result : Result (Unit {0}) CloseError) : Type 0 where
   pub later : before ≤ now

@@ -1,5 +1,5 @@
 -- The channels that are held.
-use Rattle.std.specs.Prelude.{◌≡◌, ◌≤◌, ℕ, ◌==◌, true, if◌then◌else◌, List, [], ◌∷◌, All}
+use Rattle.std.specs.Prelude.{◌≡◌, ℕ, ◌==◌, true, if◌then◌else◌, List, [], ◌∷◌}
 use Rattle.apdu.specs.Words.{is_between}
 use Rattle.card_effects.specs.Numbers.{AllApart}
 
@@ -12,9 +12,14 @@ pub record ChannelValue : Type 0 where
 abbrev pub IsNumber : ℕ → Type 0
 IsNumber n = is_between 1 19 n ≡ true
 
+-- each is between the two, both included
+abbrev pub AllBetween : ℕ → ℕ → List ℕ → Type 0
+AllBetween low high [] = Unit {0}
+AllBetween low high (n ∷ ns) = (is_between low high n ≡ true) × AllBetween low high ns
+
 -- the numbers of channels beside the basic one, each once
 pub record AreHeld (held : List ℕ) : Type 0 where
-  pub numbers : All IsNumber held
+  pub numbers : AllBetween 1 19 held
   pub apart : AllApart held
 
 -- the list without this number

@@ -86,6 +86,13 @@ fn unanswered(error: LinkError) -> OpenError
     }
 }
 
+/// Whether an exchange failed.
+pub fn is_fault(error: OpenError) -> bool
+    ensures { result ≡ spec.is_fault error }
+{
+    matches!(error, OpenError::Slot)
+}
+
 /// What the answer to the SELECT of an application comes to.
 pub fn selected(answer: Result<Response, LinkError>) -> Result<(), OpenError>
     ensures { result ≡ spec.selected answer }

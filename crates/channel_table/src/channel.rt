@@ -32,6 +32,7 @@ impl Channel {
     pub fn number(&self) -> u8
         ensures value { result ≡ self.now.number }
         ensures within { result ≤ 19 }
+        ensures beside { IsNumber result }
     {
         self.number
     }

@@ -1,14 +1,15 @@
 // The channels that are held, and how one is opened and closed.
-ghost use Rattle.std.specs.Prelude.{◌≡◌, ◌≤◌, ◌∷◌, ◌++◌, [], false, None, Some, Err, length, IfOk, OnErr};
+ghost use Rattle.std.specs.Prelude.{◌≡◌, ◌≤◌, ◌∷◌, ◌++◌, [], false, None, Some, Err, length, position, ◌==◌, ◌<◌, IfOk, IfSome, OnErr};
 ghost use Rattle.apdu.specs.Words.{is_one_of};
 ghost use Rattle.channels.specs.Channels as command;
 ghost use Rattle.link.specs.Exchanges.{Grows, Plays, added, exchanged, seen};
 ghost use Rattle.channel_table.specs.Agreement.{AddsOpen, KeepsOpen, UnlessCloseFault, UnlessFault};
 ghost use Rattle.channel_table.specs.Opening as spec;
-ghost use Rattle.channel_table.specs.Opening.{ClosesOrFaults, FaultsBy, OpensOrFaults};
+ghost use Rattle.channel_table.specs.declared.error.OpenError.TheVariants as fault;
+ghost use Rattle.channel_table.specs.Opening.{ClosesOrFaults, OpensOrFaults};
 ghost use Rattle.channel_table.specs.Values.{IsNumber, AreHeld, without};
 
-use crate::answers::{closed, closed_again, number_given, selected};
+use crate::answers::{closed, closed_again, is_fault, number_given, selected};
 use crate::{Channel, CloseError, OpenError};
 use arrayvec::ArrayVec;
 use card_model::{Slot, Trail};
@@ -75,17 +76,52 @@ impl Table {
             (added trail.old trail.new)
             (seen (S.world slot.new) (S.plan slot.new) (S.faults slot.new)) }
         ensures cause { OpensOrFaults (S.faults slot.old) (S.faults slot.new) result }
-        ensures held { IfOk result (λ channel. self.new ≡ self.old ++ channel.number ∷ []) }
-        ensures refused { OnErr result (self.new ≡ self.old) }
+        ensures held { self.new ≡ spec.held_with result self.old }
         ensures adds { IfOk result (λ channel.
             AddsOpen channel.number (S.world slot.old) (S.world slot.new)) }
         ensures open { UnlessFault result
             (KeepsOpen (S.world slot.old) (S.world slot.new) self.old self.new) }
     {
-        let number = self.assign(slot, trail)?;
-        select_or_close(slot, number, aid, trail)?;
-        self.hold(number);
-        Ok(Channel::opened(number, epoch))
+        let opened = self.open_on_card(slot, aid, epoch, trail);
+        self.hold_opened(&opened);
+        opened
+    }
+
+    // Opens a channel on the card, and selects an application there.
+    fn open_on_card<S: Slot>(
+        &self,
+        slot: &mut S,
+        aid: &[u8],
+        epoch: u64,
+        trail: &mut Trail,
+    ) -> Result<Channel, OpenError>
+        requires aid { length aid.now ≤ 255 }
+        requires room { length trail.old ≤ 4 }
+        ensures trail { Grows 12 trail.old trail.new }
+        ensures sends { spec.opened epoch self.now aid.now (added trail.old trail.new)
+            ≡ Some (result, []) }
+        ensures slot { Plays (seen (S.world slot.old) (S.plan slot.old) (S.faults slot.old))
+            (added trail.old trail.new)
+            (seen (S.world slot.new) (S.plan slot.new) (S.faults slot.new)) }
+        ensures cause { OpensOrFaults (S.faults slot.old) (S.faults slot.new) result }
+        ensures free { IfOk result (λ channel. is_one_of channel.number self.now ≡ false) }
+    {
+        match self.assign(slot, trail) {
+            Ok(number) => {
+                let answer = select_or_close(slot, number, aid, trail);
+                channel_of(number, epoch, answer)
+            }
+            Err(error) => Err(error),
+        }
+    }
+
+    fn hold_opened(&mut self, opened: &Result<Channel, OpenError>)
+        requires { IfOk opened.now (λ channel. is_one_of channel.number self.old ≡ false) }
+        ensures { self.new ≡ spec.held_with opened.now self.old }
+    {
+        if let Ok(channel) = opened {
+            self.hold(channel.number());
+        }
     }
 
     // MANAGE CHANNEL, for the number of a channel.
@@ -148,11 +184,17 @@ impl Table {
     fn let_go(&mut self, number: u8)
         ensures { self.new ≡ without number self.old }
     {
-        let place = self.held.as_slice().iter().position(|held| *held == number);
-        if let Some(place) = place {
+        if let Some(place) = place_of(self.held.as_slice(), number) {
             let _ = self.held.remove(place);
         }
     }
+}
+
+fn place_of(held: &[u8], number: u8) -> Option<usize>
+    ensures place { result ≡ position (λ n. n == number) held.now }
+    ensures within { IfSome result (λ place. place < length held.now) }
+{
+    held.iter().position(|held| *held == number)
 }
 
 fn is_living(epoch: u64, living: Option<u64>) -> bool
@@ -161,6 +203,19 @@ fn is_living(epoch: u64, living: Option<u64>) -> bool
     match living {
         None => false,
         Some(living) => living == epoch,
+    }
+}
+
+// The channel of this number, where its SELECT succeeded.
+fn channel_of(number: u8, epoch: u64, answer: Result<(), OpenError>) -> Result<Channel, OpenError>
+    requires { IsNumber number }
+    ensures value { spec.the_channel number epoch (Some (answer, [])) ≡ Some (result, []) }
+    ensures number { IfOk result (λ channel. channel.number ≡ number) }
+    ensures failed { result ≡ Err fault.Slot → answer ≡ Err fault.Slot }
+{
+    match answer {
+        Ok(()) => Ok(Channel::opened(number, epoch)),
+        Err(error) => Err(error),
     }
 }
 
@@ -182,10 +237,14 @@ fn select_or_close<S: Slot>(
         (seen (S.world slot.new) (S.plan slot.new) (S.faults slot.new)) }
     ensures cause { OpensOrFaults (S.faults slot.old) (S.faults slot.new) result }
 {
-    match selected(transmit(slot, &select_application(number, aid), trail)) {
+    let answer = transmit(slot, &select_application(number, aid), trail);
+    match selected(answer) {
         Ok(()) => Ok(()),
-        Err(OpenError::Slot) => Err(OpenError::Slot),
-        Err(refusal) => Err(close_again(slot, number, refusal, trail)),
+        Err(refusal) => if is_fault(refusal) {
+            Err(refusal)
+        } else {
+            Err(close_again(slot, number, refusal, trail))
+        },
     }
 }
 
@@ -196,7 +255,8 @@ fn close_again<S: Slot>(
     refusal: OpenError,
     trail: &mut Trail,
 ) -> OpenError
-    requires { length trail.old ≤ 12 }
+    requires refused { spec.is_fault refusal ≡ false }
+    requires room { length trail.old ≤ 12 }
     ensures trail { Grows 4 trail.old trail.new }
     ensures sends { spec.behind_refusal refusal
         (exchanged (command.close_command number) None (added trail.old trail.new))
@@ -204,7 +264,8 @@ fn close_again<S: Slot>(
     ensures slot { Plays (seen (S.world slot.old) (S.plan slot.old) (S.faults slot.old))
         (added trail.old trail.new)
         (seen (S.world slot.new) (S.plan slot.new) (S.faults slot.new)) }
-    ensures cause { FaultsBy (S.faults slot.old) (S.faults slot.new) refusal result }
+    ensures cause { OpensOrFaults {T = Unit {0}}
+        (S.faults slot.old) (S.faults slot.new) (Err result) }
 {
     closed_again(refusal, transmit(slot, &close_command(number), trail))
 }
