@@ -16,7 +16,7 @@ use Rattle.link.specs.declared.exchanges.LinkError.{LinkError}
 use Rattle.link.specs.declared.exchanges.LinkError.TheVariants as linked
 use Rattle.link.specs.Commands.{chain_after, chain_count, chain_first, follow_up, asks_more, most_exchanges}
 use Rattle.link.specs.Exchanges.{Seen, Exchanges, Plays, chain_of, answer_of, exchanged}
-use Rattle.channel_table.proofs.Worlds.{Behind, behind, there, same_command_is, some_is}
+use Rattle.channel_table.proofs.Worlds.{Behind, behind, there, same_command_is, first_is, rest_is}
 
 -- ---- the chain behind an exchange
 
@@ -52,12 +52,6 @@ comes_by P Q rest new f a = record { seen = a.seen; world = a.world; told = a.to
 abbrev pub NoFault : Result ResponseValue LinkError → Type 0
 NoFault r = r ≡ Err linked.Slot → ⊥
 
-answer_is : (a : Result ResponseValue LinkError) (xs : List Step) (b : Result ResponseValue LinkError) (ys : List Step) → Some (a, xs) ≡ Some (b, ys) → a ≡ b
-answer_is a xs b ys h = ap (λ (z : Result ResponseValue LinkError × List Step). z.0) (some_is (a, xs) (b, ys) h)
-
-steps_are : (a : Result ResponseValue LinkError) (xs : List Step) (b : Result ResponseValue LinkError) (ys : List Step) → Some (a, xs) ≡ Some (b, ys) → xs ≡ ys
-steps_are a xs b ys h = ap (λ (z : Result ResponseValue LinkError × List Step). z.1) (some_is (a, xs) (b, ys) h)
-
 -- the card was there
 pub card_there : (steps : List Step) (old new : Seen) (w : World) (due : CommandValue) (before : Option Chain) (r : Result ResponseValue LinkError) (rest : List Step) → exchanged due before steps ≡ Some (r, rest) → Plays old steps new → old.world ≡ Some w → NoFault r → (card : CardState) × (card_inside w ≡ Some card)
 card_there [] old new w due before r rest h p t n = absurd (cc)
@@ -68,7 +62,7 @@ card_there (step ∷ steps) old new w due before r rest h (between, (e, p)) t n 
     by_outcome (Ok response) o q =
         let a : IfOk (Ok response) (Answers (Some w) between.world step.command) = subst (λ (x : Result ResponseValue SlotFault). IfOk x (Answers (Some w) between.world step.command)) o (subst (λ (x : Option World). IfOk step.outcome (Answers x between.world step.command)) t e.ok) in
         there (card_inside w) a.inside
-    by_outcome (Err fault) o q = absurd (n (sym (answer_is (answer_of step.command (Err fault)) steps r rest q)))
+    by_outcome (Err fault) o q = absurd (n (sym (first_is (answer_of step.command (Err fault)) steps r rest q)))
 
     by_same : (b : Bool) → (if b then unwrap_or (option_map (λ (chain : Chain). exchanged chain.next (Some chain) steps) (chain_of step.command step.outcome before)) (Some (answer_of step.command step.outcome, steps)) else None) ≡ Some (r, rest) → (card : CardState) × (card_inside w ≡ Some card)
     by_same true q = by_outcome step.outcome refl (q)
@@ -109,12 +103,12 @@ module _ (C : CardState → CommandValue → Type 0) (T : CardState → Result R
           (g between b.world p1.0 chain.next (Some chain) q p b.told b.inside n due_next)
 
       by_chain : Later C T steps new r rest → (response : ResponseValue) → Behind w card due response between.world → (o : Option Chain) → chain_after due response before ≡ o → unwrap_or (option_map (λ (chain : Chain). exchanged chain.next (Some chain) steps) o) (Some (answer_of due (Ok response), steps)) ≡ Some (r, rest) → Comes (T card r) rest new
-      by_chain g response b None c q = at_last response b (answer_is (answer_of due (Ok response)) steps r rest q) (steps_are (answer_of due (Ok response)) steps r rest q)
+      by_chain g response b None c q = at_last response b (first_is (answer_of due (Ok response)) steps r rest q) (rest_is (answer_of due (Ok response)) steps r rest q)
       by_chain g response b (Some chain) c q = going g response chain b (follows due response before chain c) q
 
       by_outcome : Later C T steps new r rest → (outcome : Result ResponseValue SlotFault) → IfOk outcome (Answers (Some w) between.world due) → unwrap_or (option_map (λ (chain : Chain). exchanged chain.next (Some chain) steps) (chain_of due outcome before)) (Some (answer_of due outcome, steps)) ≡ Some (r, rest) → Comes (T card r) rest new
       by_outcome g (Ok response) a q = by_chain g response (behind w card due response between.world i a) (chain_after due response before) refl q
-      by_outcome g (Err fault) a q = absurd (n (sym (answer_is (answer_of due (Err fault)) steps r rest q)))
+      by_outcome g (Err fault) a q = absurd (n (sym (first_is (answer_of due (Err fault)) steps r rest q)))
 
       by_command : Later C T steps new r rest → step.command ≡ due → unwrap_or (option_map (λ (chain : Chain). exchanged chain.next (Some chain) steps) (chain_of step.command step.outcome before)) (Some (answer_of step.command step.outcome, steps)) ≡ Some (r, rest) → Comes (T card r) rest new
       by_command g s q =

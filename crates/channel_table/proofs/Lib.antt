@@ -4,3 +4,4 @@ pub mod Worlds
 pub mod Chains
 pub mod Managing
 pub mod Told
+pub mod Opened

@@ -128,7 +128,7 @@ module _ (changes : List Change) (card : CardState) (basic : is_one_of 0 (number
           | inr z ↦ open_number_is card m (below_open card.free 1 n h m (grind arith) (grind arith))
         ] in
         let many : 20 ≤ length (numbers card) = at_least 20 (numbers card) each in
-        let same : length (numbers card) ≡ length card.channels = length-map {f = number_of} card.channels in
+        let same : length (numbers card) ≡ length card.channels = length-map card.channels number_of in
         let less : length card.channels < 20 = grind arith in
         omega (arith, many, same, less))
   ]

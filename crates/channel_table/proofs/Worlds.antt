@@ -1,6 +1,6 @@
 -- The card in the slot behind an exchange.
 use Rattle.std.proofs.Common.{◌≡◌, ◌⊎◌, inl, inr, ℕ, zero, suc, ◌==◌, Bool, true, false, ◌&&◌, Option, Some, None, List, [], ◌∷◌, refl, ap, sym, ◌∙◌, subst, is_some, true≢false, IfOk, Result, Ok, Err}
-use Rattle.std.specs.Prelude.{slice_get, slice_set, option_and_then, IfSome, IsTrue}
+use Rattle.std.specs.Prelude.{slice_get, slice_set, option_and_then, option_map, IfSome, IsTrue}
 use Rattle.std.proofs.lemmas.Bool.{and_parts, eqb-true}
 use Rattle.apdu.specs.Values.{CommandValue, ResponseValue}
 use Rattle.apdu.specs.Words.{same_bytes, same_number}
@@ -13,6 +13,12 @@ use Rattle.card_effects.proofs.Same.{same_bytes_is}
 
 pub some_is : {X : Type 0} (x y : X) → Some x ≡ Some y → x ≡ y
 some_is x y h = cc
+
+pub first_is : {X Y : Type 0} (a : X) (xs : Y) (b : X) (ys : Y) → ◌≡◌ {A = Option (X × Y)} (Some (a, xs)) (Some (b, ys)) → a ≡ b
+first_is {X} {Y} a xs b ys h = some_is a b (ap (option_map (λ (z : X × Y). z.0)) h)
+
+pub rest_is : {X Y : Type 0} (a : X) (xs : Y) (b : X) (ys : Y) → ◌≡◌ {A = Option (X × Y)} (Some (a, xs)) (Some (b, ys)) → xs ≡ ys
+rest_is {X} {Y} a xs b ys h = some_is xs ys (ap (option_map (λ (z : X × Y). z.1)) h)
 
 -- ---- the same command
 

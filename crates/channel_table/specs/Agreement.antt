@@ -1,13 +1,13 @@
 -- The channels held and those that are open on the card.
-use Rattle.std.specs.Prelude.{◌≡◌, ℕ, ◌==◌, ◌||◌, List, [], ◌∷◌, ◌++◌, Option, Some, None, Result, Ok, Err, IfSome}
+use Rattle.std.specs.Prelude.{◌≡◌, ℕ, ◌==◌, ◌||◌, Bool, true, false, List, [], ◌∷◌, ◌++◌, Option, Some, None, Result, Ok, Err, IfSome}
 use Rattle.apdu.specs.Words.{is_one_of}
 use Rattle.card_model.specs.declared.world.CardState.{CardState}
 use Rattle.card_model.specs.declared.world.World.{World}
 use Rattle.card_model.specs.Step.{card_inside}
 use Rattle.card_effects.specs.Numbers.{numbers, AllApart}
 use Rattle.channel_table.specs.Values.{ChannelValue}
+use Rattle.channel_table.specs.Opening.{is_fault}
 use Rattle.channel_table.specs.declared.error.OpenError.{OpenError}
-use Rattle.channel_table.specs.declared.error.OpenError.TheVariants as refusal
 use Rattle.channel_table.specs.declared.error.CloseError.{CloseError}
 use Rattle.channel_table.specs.declared.error.CloseError.TheVariants as closing
 
@@ -35,11 +35,12 @@ AddsInside n _ _ = ⊥
 abbrev pub AddsOpen : ℕ → Option World → Option World → Type 0
 AddsOpen n old new = IfSome old (λ w. IfSome new (λ v. AddsInside n (card_inside w) (card_inside v)))
 
--- a fault ends the epoch, and no more is said then
-abbrev pub UnlessFault : Result ChannelValue OpenError → Type 0 → Type 0
-UnlessFault (Err refusal.Slot) p = Unit {0}
-UnlessFault _ p = p
+-- an exchange of the open failed
+abbrev pub open_failed : Result ChannelValue OpenError → Bool
+open_failed (Ok channel) = false
+open_failed (Err e) = is_fault e
 
-abbrev pub UnlessCloseFault : Result (Unit {0}) CloseError → Type 0 → Type 0
-UnlessCloseFault (Err closing.Slot) p = Unit {0}
-UnlessCloseFault _ p = p
+-- an exchange of the close failed
+abbrev pub close_failed : Result (Unit {0}) CloseError → Bool
+close_failed (Err closing.Slot) = true
+close_failed _ = false

@@ -3,7 +3,7 @@ ghost use Rattle.std.specs.Prelude.{◌≡◌, ◌≤◌, ◌∷◌, ◌++◌, [
 ghost use Rattle.apdu.specs.Words.{is_one_of};
 ghost use Rattle.channels.specs.Channels as command;
 ghost use Rattle.link.specs.Exchanges.{Grows, Plays, added, exchanged, seen};
-ghost use Rattle.channel_table.specs.Agreement.{AddsOpen, KeepsOpen, UnlessCloseFault, UnlessFault};
+ghost use Rattle.channel_table.specs.Agreement.{AddsOpen, KeepsOpen, close_failed, open_failed};
 ghost use Rattle.channel_table.specs.Opening as spec;
 ghost use Rattle.channel_table.specs.declared.error.OpenError.TheVariants as fault;
 ghost use Rattle.channel_table.specs.Opening.{ClosesOrFaults, OpensOrFaults};
@@ -79,8 +79,8 @@ impl Table {
         ensures held { self.new ≡ spec.held_with result self.old }
         ensures adds { IfOk result (λ channel.
             AddsOpen channel.number (S.world slot.old) (S.world slot.new)) }
-        ensures open { UnlessFault result
-            (KeepsOpen (S.world slot.old) (S.world slot.new) self.old self.new) }
+        ensures open { open_failed result ≡ false →
+            KeepsOpen (S.world slot.old) (S.world slot.new) self.old self.new }
     {
         let opened = self.open_on_card(slot, aid, epoch, trail);
         self.hold_opened(&opened);
@@ -167,8 +167,8 @@ impl Table {
             (seen (S.world slot.new) (S.plan slot.new) (S.faults slot.new)) }
         ensures cause { ClosesOrFaults (S.faults slot.old) (S.faults slot.new) result }
         ensures held { self.new ≡ spec.held_behind channel living self.old }
-        ensures open { UnlessCloseFault result
-            (KeepsOpen (S.world slot.old) (S.world slot.new) self.old self.new) }
+        ensures open { close_failed result ≡ false →
+            KeepsOpen (S.world slot.old) (S.world slot.new) self.old self.new }
     {
         let number = channel.number();
         let epoch = channel.epoch();
