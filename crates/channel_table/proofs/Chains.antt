@@ -60,7 +60,7 @@ card_there (step ∷ steps) old new w due before r rest h (between, (e, p)) t n 
   where
     by_outcome : (outcome : Result ResponseValue SlotFault) → step.outcome ≡ outcome → unwrap_or (option_map (λ (chain : Chain). exchanged chain.next (Some chain) steps) (chain_of step.command outcome before)) (Some (answer_of step.command outcome, steps)) ≡ Some (r, rest) → (card : CardState) × (card_inside w ≡ Some card)
     by_outcome (Ok response) o q =
-        let a : IfOk (Ok response) (Answers (Some w) between.world step.command) = subst (λ (x : Result ResponseValue SlotFault). IfOk x (Answers (Some w) between.world step.command)) o (subst (λ (x : Option World). IfOk step.outcome (Answers x between.world step.command)) t e.ok) in
+        let a : AnswersAt w between.world step.command response = subst (λ (x : Result ResponseValue SlotFault). IfOk x (Answers (Some w) between.world step.command)) o (subst (λ (x : Option World). IfOk step.outcome (Answers x between.world step.command)) t e.ok) in
         there (card_inside w) a.inside
     by_outcome (Err fault) o q = absurd (n (sym (first_is (answer_of step.command (Err fault)) steps r rest q)))
 

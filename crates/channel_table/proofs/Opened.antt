@@ -240,3 +240,131 @@ open_adds epoch held aid steps old new (Ok channel) h p = by_world old.world ref
     by_world : (o : Option World) → old.world ≡ o → AddsOpen channel.number o new.world
     by_world None t = tt
     by_world (Some w) t = open_adds_in epoch held aid steps old new channel h p w t
+
+-- ---- an open keeps the channels held the card's
+
+agrees_by : (new : Option World) (now : List ℕ) (v : World) (card : CardState) → new ≡ Some v → card_inside v ≡ Some card → AreOpen card now → IfSome new (λ x. AreOpenInside (card_inside x) now)
+agrees_by new now v card t k h = rw (t, k) h
+
+basic_open : (card : CardState) (held : List ℕ) → AreOpen card held → is_one_of 0 (numbers card) ≡ true
+basic_open card held a = a.same 0
+
+or_swap : (a b c : Bool) → (a || (b || c)) ≡ (b || (a || c))
+or_swap false b c = refl
+or_swap true true c = refl
+or_swap true false c = refl
+
+open_same : (before card : CardState) (held : List ℕ) → numbers card ≡ numbers before → AreOpen before held → AreOpen card held
+open_same before card held e a = record { same = λ n. ap (is_one_of n) e ∙ a.same n; apart = subst AllApart (sym e) a.apart }
+
+open_more_held : (before card : CardState) (held : List ℕ) (n : ℕ) → numbers card ≡ numbers before ++ n ∷ [] → is_one_of n (numbers before) ≡ false → AreOpen before held → AreOpen card (held ++ n ∷ [])
+open_more_held before card held n e free a = record {
+  same = λ m. ap (is_one_of m) e ∙ one_appended m n (numbers before) ∙ ap (λ b. (n == m) || b) (a.same m) ∙ or_swap (n == m) (m == 0) (is_one_of m held) ∙ ap (λ b. (m == 0) || b) (sym (one_appended m n held));
+  apart = subst AllApart (sym e) (apart_appended n (numbers before) free a.apart);
+}
+
+-- a channel opened and closed again
+open_again : (before middle card : CardState) (held : List ℕ) (n : ℕ) → numbers middle ≡ numbers before ++ n ∷ [] → is_one_of n (numbers before) ≡ false → AreOpen before held → Gone n (numbers middle) (numbers card) → AreOpen card held
+open_again before middle card held n e free a g = record {
+  same = λ m. elim (cases_Bool (n == m)) [
+    | inl h ↦ (let is : n ≡ m = eqb-true n m h in subst (λ x. is_one_of x (numbers card) ≡ false) is g.gone ∙ sym (subst (λ x. is_one_of x (numbers before) ≡ false) is free) ∙ a.same m)
+    | inr h ↦ g.others m h ∙ ap (is_one_of m) e ∙ one_appended m n (numbers before) ∙ ap (λ b. b || is_one_of m (numbers before)) h ∙ a.same m
+  ];
+  apart = g.apart;
+}
+
+-- MANAGE CHANNEL gave no number: none was opened
+none_opened : (before : List ℕ) (held now : List ℕ) (a : Result ResponseValue LinkError) (e : OpenError) → ((n : ℕ) → is_one_of n before ≡ ((n == 0) || is_one_of n held)) → number_given held a ≡ Err e → OpenTells before a now → now ≡ before
+none_opened before held now (Err f) e same g t = t
+none_opened before held now (Ok r) e same g (inl (s, t)) = t
+none_opened before held now (Ok r) e same g (inr d) = absurd (
+    let within : d.number ≤ 19 = d.within (same 0) in
+    let beside : 1 ≤ d.number = d.beside in
+    let between : is_between 1 19 d.number ≡ true = grind arith in
+    let free : is_one_of d.number held ≡ false = (not_first (d.number == 0) (is_one_of d.number held) (sym (same d.number) ∙ d.free)).1 in
+    let test : (is_between 1 19 d.number && not (is_one_of d.number held)) ≡ true = rw (between, free) refl in
+    let z : Ok d.number ≡ Err e =
+        sym (ap (λ (b : Bool). number_or (refused r.sw) (if b then Some d.number else None)) test)
+        ∙ sym (ap (λ (body : List ℕ). number_or (refused r.sw) (new_number held body)) d.body)
+        ∙ sym (ap (λ (b : Bool). number_or (refused r.sw) (if b then new_number held r.body else None)) d.status) ∙ g in
+    cc)
+
+open_went : (epoch : ℕ) (held : List ℕ) (aid : List ℕ) (n : ℕ) (rest : List Step) (new : Seen) (before : CardState) (a : Result ResponseValue LinkError) (result : Result ChannelValue OpenError) (s : Comes (λ k. OpenTells (numbers before) a (numbers k)) rest new) → number_given held a ≡ Ok n → AreOpen before held → open_failed result ≡ false → (outcome : Result (Unit {0}) OpenError) → selecting n aid rest ≡ Some (outcome, []) → the_channel n epoch (Some (outcome, [])) ≡ Some (result, []) → Settled (λ k. AreOpen k (held_with result held)) new
+open_went epoch held aid n rest new before a result s g agree f (Ok u) h is =
+    let fresh = new_by held (numbers before) (numbers s.card) n a g s.holds in
+    let r : Ok (record { number = n; epoch = epoch }) ≡ result = first_is (Ok (record { number = n; epoch = epoch })) [] result [] is in
+    resettled (λ k. numbers k ≡ numbers s.card) (λ k. AreOpen k (held_with result held)) new
+    (λ k e. subst (λ x. AreOpen k (held_with x held)) r (open_more_held before k held n (e ∙ fresh.added) fresh.free agree))
+    (select_done n aid rest s.seen new s.world s.card s.plays s.told s.inside u h)
+open_went epoch held aid n rest new before a result s g agree f (Err e) h is =
+    let fresh = new_by held (numbers before) (numbers s.card) n a g s.holds in
+    let r : Err e ≡ result = first_is (Err e) [] result [] is in
+    let basic : is_one_of 0 (numbers s.card) ≡ true = ap (is_one_of 0) fresh.added ∙ one_appended 0 n (numbers before) ∙ ap (λ b. (n == 0) || b) (basic_open before held agree) ∙ or_true (n == 0) in
+    let apart : AllApart (numbers s.card) = subst AllApart (sym fresh.added) (apart_appended n (numbers before) fresh.free agree.apart) in
+    resettled (λ k. Gone n (numbers s.card) (numbers k)) (λ k. AreOpen k (held_with result held)) new
+    (λ k gone. subst (λ x. AreOpen k (held_with x held)) r (open_again before s.card k held n fresh.added fresh.free agree gone))
+    (select_refused n aid rest s.seen new s.world s.card s.plays s.told s.inside basic fresh.beside apart e (ap open_failed r ∙ f) h)
+  where
+    or_true : (b : Bool) → (b || true) ≡ true
+    or_true true = refl
+    or_true false = refl
+
+open_keeps_in : (epoch : ℕ) (held aid : List ℕ) (steps : List Step) (old new : Seen) (result : Result ChannelValue OpenError) → opened epoch held aid steps ≡ Some (result, []) → Plays old steps new → open_failed result ≡ false → (w : World) → old.world ≡ Some w → AreOpenInside (card_inside w) held → Settled (λ k. AreOpen k (held_with result held)) new
+open_keeps_in epoch held aid steps old new result h p f w t agree = elim (opening epoch held aid steps result h) [
+  | inl d ↦ (
+      let real : is_fault d.error ≡ false = sym (ap open_failed d.is) ∙ f in
+      let s = started steps old new w d.answer [] d.sent p t (no_fault_given held d.answer (Err d.error) d.given real) in
+      let agreed : AreOpen s.before held = subst (λ o. AreOpenInside o held) s.is agree in
+      resettled (λ k. OpenTells (numbers s.before) d.answer (numbers k)) (λ k. AreOpen k (held_with result held)) new
+      (λ k tells. subst (λ x. AreOpen k (held_with x held)) (sym d.is) (open_same s.before k held (none_opened (numbers s.before) held (numbers k) d.answer d.error agreed.same d.given tells) agreed))
+      (settled (λ k. OpenTells (numbers s.before) d.answer (numbers k)) [] new refl s.comes))
+  | inr d ↦ (
+      let s = started steps old new w d.answer d.rest d.sent p t (no_fault_given held d.answer (Ok d.number) d.given refl) in
+      let agreed : AreOpen s.before held = subst (λ o. AreOpenInside o held) s.is agree in
+      open_went epoch held aid d.number d.rest new s.before d.answer result s.comes d.given agreed f d.outcome d.selects d.is)
+]
+
+pub open_keeps : (epoch : ℕ) (held aid : List ℕ) (steps : List Step) (old new : Seen) (result : Result ChannelValue OpenError) (now : List ℕ) → opened epoch held aid steps ≡ Some (result, []) → Plays old steps new → now ≡ held_with result held → open_failed result ≡ false → KeepsOpen old.world new.world held now
+open_keeps epoch held aid steps old new result now h p e f = by_world old.world refl
+  where
+    by_world : (o : Option World) → old.world ≡ o → KeepsOpen o new.world held now
+    by_world None t = tt
+    by_world (Some w) t = λ agree. (
+        let k = open_keeps_in epoch held aid steps old new result h p f w t agree in
+        agrees_by new.world now k.world k.card k.told k.inside (subst (AreOpen k.card) (sym e) k.holds))
+
+-- ---- a close keeps them too
+
+close_less : (before card : CardState) (held : List ℕ) (n : ℕ) → (n == 0) ≡ false → AreHeld held → AreOpen before held → Gone n (numbers before) (numbers card) → AreOpen card (without n held)
+close_less before card held n beside h a g = record {
+  same = λ m. elim (cases_Bool (n == m)) [
+    | inl e ↦ (let is : n ≡ m = eqb-true n m e in subst (λ x. is_one_of x (numbers card) ≡ ((x == 0) || is_one_of x (without n held))) is (g.gone ∙ sym (ap (λ b. b || is_one_of n (without n held)) beside ∙ gone n held h.apart)))
+    | inr e ↦ g.others m e ∙ a.same m ∙ ap (λ b. (m == 0) || b) (sym (without_other n m held (grind arith)))
+  ];
+  apart = g.apart;
+}
+
+close_sent : (n : ℕ) (held : List ℕ) (steps : List Step) (old new : Seen) (a : Result ResponseValue LinkError) → (n == 0) ≡ false → AreHeld held → exchanged (close_command n) None steps ≡ Some (a, []) → Plays old steps new → NoFault a → (w : World) → old.world ≡ Some w → AreOpenInside (card_inside w) held → Settled (λ k. AreOpen k (without n held)) new
+close_sent n held steps old new a beside kept h p f w t agree =
+    let q = card_there steps old new w (close_command n) None a [] h p t f in
+    let agreed : AreOpen q.0 held = subst (λ o. AreOpenInside o held) q.1 agree in
+    let first : Shuts n q.0 (close_command n) = record { ins = refl; closing = refl; named = refl; basic = basic_open q.0 held agreed; beside = beside; first = λ there. refl } in
+    let told = chain_comes (Shuts n) (CloseTold n) (close_last n) (close_next n) (close_more n) steps old new w q.0 (close_command n) None a [] h p t q.1 f first in
+    resettled (CloseTold n q.0 a) (λ k. AreOpen k (without n held)) new
+    (λ k c. close_less q.0 k held n beside kept agreed (c agreed.apart))
+    (settled (CloseTold n q.0 a) [] new refl told)
+
+pub close_keeps : (n : ℕ) (held : List ℕ) (steps : List Step) (old new : Seen) (a : Result ResponseValue LinkError) (now : List ℕ) → IsNumber n → AreHeld held → exchanged (close_command n) None steps ≡ Some (a, []) → Plays old steps new → now ≡ without n held → close_failed (closed a) ≡ false → KeepsOpen old.world new.world held now
+close_keeps n held steps old new a now number kept h p e f = by_world old.world refl
+  where
+    beside : (n == 0) ≡ false
+    beside = let one : is_between 1 19 n ≡ true = number in grind arith
+
+    no_fault : NoFault a
+    no_fault z = true≢false (ap (λ (y : Result ResponseValue LinkError). close_failed (closed y)) (sym z) ∙ f)
+
+    by_world : (o : Option World) → old.world ≡ o → KeepsOpen o new.world held now
+    by_world None t = tt
+    by_world (Some w) t = λ agree. (
+        let k = close_sent n held steps old new a beside kept h p no_fault w t agree in
+        agrees_by new.world now k.world k.card k.told k.inside (subst (AreOpen k.card) (sym e) k.holds))

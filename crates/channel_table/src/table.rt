@@ -177,12 +177,14 @@ impl Table {
             return Err(CloseError::EpochEnded(epoch));
         }
         self.let_go(number);
-        closed(transmit(slot, &close_command(number), trail))
+        let answer = transmit(slot, &close_command(number), trail);
+        closed(answer)
     }
 
     // Takes a number out.
     fn let_go(&mut self, number: u8)
-        ensures { self.new ≡ without number self.old }
+        ensures held { AreHeld self.old }
+        ensures without { self.new ≡ without number self.old }
     {
         if let Some(place) = place_of(self.held.as_slice(), number) {
             let _ = self.held.remove(place);
