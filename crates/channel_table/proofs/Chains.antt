@@ -15,7 +15,7 @@ use Rattle.link.specs.declared.chain.Chain.{Chain}
 use Rattle.link.specs.declared.exchanges.LinkError.{LinkError}
 use Rattle.link.specs.declared.exchanges.LinkError.TheVariants as linked
 use Rattle.link.specs.Commands.{chain_after, chain_count, chain_first, follow_up, asks_more, most_exchanges}
-use Rattle.link.specs.Exchanges.{Seen, Exchanges, Plays, chain_of, answer_of, exchanged}
+use Rattle.link.specs.Exchanges.{Seen, Plays, chain_of, answer_of, exchanged}
 use Rattle.channel_table.proofs.Worlds.{Behind, behind, there, same_command_is, first_is, rest_is}
 
 -- ---- the chain behind an exchange
@@ -77,7 +77,6 @@ module _ (C : CardState → CommandValue → Type 0) (T : CardState → Result R
     (last : (changes : List Change) (card : CardState) (c : CommandValue) → C card c → T card (answer_of c (Ok (on_card changes card c).1)) (on_card changes card c).0)
     (next : (changes : List Change) (card : CardState) (c : CommandValue) → C card c → wants_more (on_card changes card c).1.sw ≡ true → C (on_card changes card c).0 (follow_up c (on_card changes card c).1))
     (more : (changes : List Change) (card : CardState) (c : CommandValue) → C card c → wants_more (on_card changes card c).1.sw ≡ true → (r : Result ResponseValue LinkError) (k : CardState) → T (on_card changes card c).0 r k → T card r k) where
-
   pub chain_comes : (steps : List Step) (old new : Seen) (w : World) (card : CardState) (due : CommandValue) (before : Option Chain) (r : Result ResponseValue LinkError) (rest : List Step) → exchanged due before steps ≡ Some (r, rest) → Plays old steps new → old.world ≡ Some w → card_inside w ≡ Some card → NoFault r → C card due → Comes (T card r) rest new
   chain_comes [] old new w card due before r rest h p t i n d = absurd (cc)
   chain_comes (step ∷ steps) old new w card due before r rest h (between, (e, p)) t i n d =

@@ -1,8 +1,8 @@
 -- The channels held and those of a told card, behind an open or a close.
-use Rattle.std.proofs.Common.{◌≡◌, ◌⊎◌, inl, inr, ℕ, ◌+◌, ◌<◌, ◌≤◌, ◌==◌, Bool, true, false, ◌&&◌, ◌||◌, not, if◌then◌else◌, Option, Some, None, List, [], ◌∷◌, ◌++◌, Result, Ok, Err, refl, ap, sym, ◌∙◌, subst, arith}
+use Rattle.std.proofs.Common.{◌≡◌, ◌⊎◌, inl, inr, ℕ, ◌≤◌, ◌==◌, Bool, true, false, ◌&&◌, ◌||◌, not, if◌then◌else◌, Option, Some, None, List, [], ◌∷◌, ◌++◌, Result, Ok, Err, refl, ap, sym, ◌∙◌, subst, arith}
 use Rattle.std.specs.Prelude.{IfSome, IfOk}
-use Rattle.std.proofs.lemmas.Bool.{eqb-true, eq-eqb, cases_Bool, false≢true, true≢false, and_from}
-use Rattle.apdu.specs.Values.{CommandValue, ResponseValue}
+use Rattle.std.proofs.lemmas.Bool.{eqb-true, cases_Bool, false≢true, true≢false}
+use Rattle.apdu.specs.Values.{ResponseValue}
 use Rattle.apdu.specs.Words.{is_one_of, is_between}
 use Rattle.apdu.specs.Apdu.{is_success}
 use Rattle.card_model.specs.declared.trail.Step.{Step}
@@ -16,13 +16,12 @@ use Rattle.link.specs.Exchanges.{Seen, Plays, exchanged}
 use Rattle.channels.specs.Channels.{open_command, close_command, select_application, new_number}
 use Rattle.channel_table.specs.Values.{ChannelValue, IsNumber, AreHeld, without}
 use Rattle.channel_table.specs.declared.error.OpenError.{OpenError}
-use Rattle.channel_table.specs.declared.error.CloseError.{CloseError}
-use Rattle.channel_table.specs.Opening.{is_fault, refused, assigned, number_or, number_given, selected, closed, closed_again, given_by, assigning, behind_refusal, behind_answer, behind_select, selecting, the_channel, behind_number, behind_open, opened, held_with, is_living, closed_by, closing_of, held_behind}
+use Rattle.channel_table.specs.Opening.{is_fault, refused, number_or, number_given, selected, closed, closed_again, given_by, behind_refusal, behind_answer, behind_select, selecting, the_channel, behind_number, behind_open, opened, held_with}
 use Rattle.channel_table.specs.Agreement.{AreOpen, AreOpenInside, KeepsOpen, AddsInside, AddsOpen, open_failed, close_failed}
-use Rattle.channel_table.proofs.Worlds.{some_is, first_is, rest_is}
+use Rattle.channel_table.proofs.Worlds.{first_is, rest_is}
 use Rattle.channel_table.proofs.Chains.{Comes, NoFault, card_there, chain_comes}
-use Rattle.channel_table.proofs.Told.{IsOther, StaysOpen, other_last, other_next, other_more, Asks, Gives, OpenTells, OpenTold, open_last, open_next, open_more, Gone, CloseTold, Shuts, close_last, close_next, close_more}
-use Rattle.channel_table.proofs.Lists.{one_appended, apart_appended, without_other, gone, one_first, not_first}
+use Rattle.channel_table.proofs.Told.{IsOther, StaysOpen, other_last, other_next, other_more, Asks, OpenTells, OpenTold, open_last, open_next, open_more, Gone, CloseTold, Shuts, close_last, close_next, close_more}
+use Rattle.channel_table.proofs.Lists.{one_appended, apart_appended, without_other, gone, not_first}
 
 abbrev number_failed : Result ℕ OpenError → Bool
 number_failed (Ok n) = false
@@ -284,9 +283,9 @@ none_opened before held now (Ok r) e same g (inr d) = absurd (
     let free : is_one_of d.number held ≡ false = (not_first (d.number == 0) (is_one_of d.number held) (sym (same d.number) ∙ d.free)).1 in
     let test : (is_between 1 19 d.number && not (is_one_of d.number held)) ≡ true = rw (between, free) refl in
     let z : Ok d.number ≡ Err e =
-        sym (ap (λ (b : Bool). number_or (refused r.sw) (if b then Some d.number else None)) test)
-        ∙ sym (ap (λ (body : List ℕ). number_or (refused r.sw) (new_number held body)) d.body)
-        ∙ sym (ap (λ (b : Bool). number_or (refused r.sw) (if b then new_number held r.body else None)) d.status) ∙ g in
+    sym (ap (λ (b : Bool). number_or (refused r.sw) (if b then Some d.number else None)) test)
+    ∙ sym (ap (λ (body : List ℕ). number_or (refused r.sw) (new_number held body)) d.body)
+    ∙ sym (ap (λ (b : Bool). number_or (refused r.sw) (if b then new_number held r.body else None)) d.status) ∙ g in
     cc)
 
 open_went : (epoch : ℕ) (held : List ℕ) (aid : List ℕ) (n : ℕ) (rest : List Step) (new : Seen) (before : CardState) (a : Result ResponseValue LinkError) (result : Result ChannelValue OpenError) (s : Comes (λ k. OpenTells (numbers before) a (numbers k)) rest new) → number_given held a ≡ Ok n → AreOpen before held → open_failed result ≡ false → (outcome : Result (Unit {0}) OpenError) → selecting n aid rest ≡ Some (outcome, []) → the_channel n epoch (Some (outcome, [])) ≡ Some (result, []) → Settled (λ k. AreOpen k (held_with result held)) new

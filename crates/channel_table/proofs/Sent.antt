@@ -1,12 +1,11 @@
 -- A command behind another.
-use Rattle.std.proofs.Common.{◌≡◌, ℕ, List, [], ◌∷◌, ◌++◌, Option, Some, None, Result, Ok, Err, refl, sym, ap, ◌∙◌, Bool, true, false, if◌then◌else◌}
+use Rattle.std.proofs.Common.{◌≡◌, ℕ, List, [], ◌++◌, Option, Some, None, Result, Ok, Err, refl, sym, ap, ◌∙◌, Bool, false, if◌then◌else◌}
 use Rattle.apdu.specs.Values.{CommandValue, ResponseValue}
 use Rattle.card_model.specs.declared.trail.Step.{Step}
 use Rattle.link.specs.declared.exchanges.LinkError.{LinkError}
 use Rattle.link.specs.Exchanges.{added, exchanged}
 use Rattle.link.proofs.Steps.{added-both, exchanged-behind}
 use Rattle.channels.specs.Channels.{open_command, close_command, select_application}
-use Rattle.channel_table.specs.Values.{ChannelValue}
 use Rattle.channel_table.proofs.Worlds.{some_is}
 use Rattle.channel_table.specs.Opening.{number_given, selected, is_fault, given_by, assigning, behind_refusal, behind_answer, behind_select, selecting, the_channel, behind_open, opened}
 use Rattle.channel_table.specs.declared.error.OpenError.{OpenError}

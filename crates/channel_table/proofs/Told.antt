@@ -1,9 +1,9 @@
 -- The numbers of a told card's open channels behind the exchanges of one command.
-use Rattle.std.proofs.Common.{◌≡◌, ◌⊎◌, inl, inr, ℕ, zero, suc, ◌+◌, ◌<◌, ◌≤◌, ◌%◌, ◌==◌, Bool, true, false, ◌&&◌, ◌||◌, not, if◌then◌else◌, Option, Some, None, List, [], ◌∷◌, ◌++◌, Result, Ok, Err, refl, ap, sym, ◌∙◌, subst, arith}
-use Rattle.std.proofs.lemmas.Bool.{eqb-true, eq-eqb, cases_Bool, false≢true, true≢false, and_from}
+use Rattle.std.proofs.Common.{◌≡◌, ◌⊎◌, inl, inr, ℕ, ◌≤◌, ◌%◌, ◌==◌, Bool, true, false, ◌&&◌, not, if◌then◌else◌, List, [], ◌∷◌, ◌++◌, Result, Ok, Err, refl, ap, sym, ◌∙◌, subst}
+use Rattle.std.proofs.lemmas.Bool.{eq-eqb, cases_Bool, false≢true}
 use Rattle.apdu.specs.Values.{CommandValue, ResponseValue}
 use Rattle.apdu.specs.Words.{is_one_of}
-use Rattle.apdu.specs.Apdu.{with_le, le_of_byte, is_success, has_more, wants_other_le, wants_more, manage_channel_ins, select_ins, read_record_ins, read_binary_ins, get_response_ins, update_record_ins, update_binary_ins, fetch_ins, verify_ins}
+use Rattle.apdu.specs.Apdu.{with_le, le_of_byte, is_success, has_more, wants_more, manage_channel_ins, select_ins, read_record_ins, read_binary_ins, get_response_ins, update_record_ins, update_binary_ins, fetch_ins, verify_ins}
 use Rattle.card_model.specs.declared.world.Change.{Change}
 use Rattle.card_model.specs.declared.world.CardState.{CardState}
 use Rattle.card_model.specs.Step.{on_card}

@@ -1,14 +1,14 @@
 -- The card in the slot behind an exchange.
-use Rattle.std.proofs.Common.{◌≡◌, ◌⊎◌, inl, inr, ℕ, zero, suc, ◌==◌, Bool, true, false, ◌&&◌, Option, Some, None, List, [], ◌∷◌, refl, ap, sym, ◌∙◌, subst, is_some, true≢false, IfOk, Result, Ok, Err}
-use Rattle.std.specs.Prelude.{slice_get, slice_set, option_and_then, option_map, IfSome, IsTrue}
+use Rattle.std.proofs.Common.{◌≡◌, ℕ, zero, suc, ◌==◌, true, ◌&&◌, Option, Some, None, List, [], ◌∷◌, refl, ap, sym, ◌∙◌, is_some, true≢false}
+use Rattle.std.specs.Prelude.{slice_get, slice_set, option_and_then, option_map, IsTrue}
 use Rattle.std.proofs.lemmas.Bool.{and_parts, eqb-true}
 use Rattle.apdu.specs.Values.{CommandValue, ResponseValue}
 use Rattle.apdu.specs.Words.{same_bytes, same_number}
 use Rattle.apdu.specs.Apdu.{same_command}
 use Rattle.card_model.specs.declared.world.CardState.{CardState}
 use Rattle.card_model.specs.declared.world.World.{World}
-use Rattle.card_model.specs.Slot.{Answers, AnswersAt}
-use Rattle.card_model.specs.Step.{on_card, card_inside, with_card, step, step_of_place, step_of_card}
+use Rattle.card_model.specs.Slot.{AnswersAt}
+use Rattle.card_model.specs.Step.{on_card, card_inside, step, step_of_place, step_of_card}
 use Rattle.card_effects.proofs.Same.{same_bytes_is}
 
 pub some_is : {X : Type 0} (x y : X) → Some x ≡ Some y → x ≡ y

@@ -1,6 +1,6 @@
 -- What opening and closing a channel sends, and what it comes to, ETSI TS 102 221 clauses 8.7, 11.1.1 and 11.1.17.
 use Rattle.std.specs.Prelude.{◌≡◌, ◌≤◌, ℕ, ◌==◌, Bool, true, false, if◌then◌else◌, List, [], ◌∷◌, ◌++◌, Option, Some, None, Result, Ok, Err}
-use Rattle.apdu.specs.Values.{CommandValue, ResponseValue}
+use Rattle.apdu.specs.Values.{ResponseValue}
 use Rattle.apdu.specs.Apdu.{is_success}
 use Rattle.apdu.specs.Stream.{Rose}
 use Rattle.card_model.specs.declared.trail.Step.{Step}

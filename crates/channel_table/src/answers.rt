@@ -1,5 +1,5 @@
 // What the answer to each command comes to.
-ghost use Rattle.std.specs.Prelude.{◌≡◌, ◌==◌, false, IfOk, IfSome};
+ghost use Rattle.std.specs.Prelude.{◌≡◌, false, IfOk, IfSome};
 ghost use Rattle.apdu.specs.Words.{is_between, is_one_of};
 ghost use Rattle.channels.specs.Channels as command;
 ghost use Rattle.channel_table.specs.Opening as spec;

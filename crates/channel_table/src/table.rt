@@ -1,5 +1,6 @@
 // The channels that are held, and how one is opened and closed.
-ghost use Rattle.std.specs.Prelude.{◌≡◌, ◌≤◌, ◌∷◌, ◌++◌, [], false, None, Some, Err, length, position, ◌==◌, ◌<◌, IfOk, IfSome, OnErr};
+ghost use Rattle.std.specs.Prelude.{◌≡◌, ◌≤◌, ◌<◌, ◌==◌, ◌∷◌, ◌++◌, [], false};
+ghost use Rattle.std.specs.Prelude.{None, Some, Err, length, position, IfOk, IfSome};
 ghost use Rattle.apdu.specs.Words.{is_one_of};
 ghost use Rattle.channels.specs.Channels as command;
 ghost use Rattle.link.specs.Exchanges.{Grows, Plays, added, exchanged, seen};

@@ -1,9 +1,8 @@
-use Rattle.std.proofs.Common.{◌≡◌, Option, Some, None, ℕ, List, refl, sym, ap, ◌∙◌, subst}
+use Rattle.std.proofs.Common.{sym, ap, ◌∙◌, subst}
 use Rattle.std.specs.Prelude.{position, ◌==◌}
 use Rattle.channel_table.specs.Values.{AreHeld, without}
 use Rattle.channel_table.proofs.Lists.{held_without, one_out, none_out, not_some}
 use Rattle.channel_table.proofs.table.Table.let_go.Goals as goal
-
 
 pub invariant_of-self : goal.invariant_of-self
 invariant_of-self c = subst AreHeld (sym (c.remove.ensures.items ∙ one_out c.args.number c.in-Some.place c.self.inside.held.items (ap (position (λ n. n == c.args.number)) (sym c.as_slice.ensures.value) ∙ sym c.place_of.ensures.place ∙ c.in-Some.is))) (held_without c.args.number _ c.self.invariant)
