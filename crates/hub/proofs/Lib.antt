@@ -8,4 +8,7 @@ pub mod Refusals
 pub mod Gives
 pub mod Tries
 pub mod Turning
-pub mod Premises
+pub mod Idle
+pub mod Calm
+pub mod Steps
+pub mod Taken
