@@ -9,7 +9,9 @@ use Rattle.report.specs.declared.line.Line.{Line}
 use Rattle.report.specs.declared.line.Line.TheVariants as line
 use Rattle.epoch_cache.specs.declared.cached.CachedFile.{CachedFile}
 use Rattle.epoch_cache.specs.Cache.{view_of_files}
-use Rattle.rules.specs.declared.due.Due.TheVariants.{Publish as publish}
+use Rattle.rules.specs.declared.due.Due.{Due}
+use Rattle.rules.specs.declared.due.Due.TheVariants.{TellEnd as tell_end, Send as send, ResetCard as reset_card, TryEvent as try_event, TellRefusal as tell_refusal, Publish as publish, Give as give, Begin as begin, WaitFor as wait_for, EndOfActor as end_of_actor, Rest as rest}
+use Rattle.hub.specs.Performing.{is_performed}
 use Rattle.rules.specs.declared.kept.Job.{Job}
 use Rattle.rules.specs.declared.kept.Kept.{Kept}
 use Rattle.rules.specs.Kept.{actor_count, begun_of}
@@ -216,6 +218,19 @@ awake_pending s k a h idle = by (is_finished s k) refl
 
 pub from_start : (o p : Parts) (events : ℕ) → events ≡ o.kept.history.events → IsTied o → StaysWith o p → events ≡ (kept_of p.script o.lines.lines).history.events
 from_start o p events e t h = e ∙ ap (λ (k : Kept). k.history.events) t.kept ∙ ap (λ (s : Script). (kept_of s o.lines.lines).history.events) (sym h.script)
+
+pub other_performed : (d : Due) → ends_turn d ≡ false → ((f : ℕ) → d ≡ publish f → ⊥) → is_performed d ≡ true
+other_performed (publish f) e n = absurd (n f refl)
+other_performed (wait_for b) e n = absurd (true≢false e)
+other_performed end_of_actor e n = absurd (true≢false e)
+other_performed rest e n = absurd (true≢false e)
+other_performed (tell_end x y) e n = refl
+other_performed (send c) e n = refl
+other_performed reset_card e n = refl
+other_performed (try_event w) e n = refl
+other_performed (tell_refusal f m) e n = refl
+other_performed (give x) e n = refl
+other_performed (begin i) e n = refl
 
 pub always_err : {T E : Type 0} (r : Result T E) (P : Type 0) → P → OnErr r P
 always_err (Ok x) P h = tt

@@ -135,3 +135,6 @@ report_legal law h p m lines whole e settled same finished placed allowed told =
     (ap (λ (x : HubValue). is_turn_allowed m (kept_now x).turn) e ∙ allowed)
     (ap (λ (k : Kept). ends_turn (due p.script k)) (sym settled.tied.kept) ∙ settled.ends)
     (ap (λ (x : HubValue). is_finished x.script (kept_now x)) e ∙ finished)
+
+pub whole_seen : (p : Parts) (whole : Bool) (h : HubValue) → whole ≡ true → seen p whole ≡ h → seen p true ≡ h
+whole_seen p whole h w e = ap (seen p) (sym w) ∙ e

@@ -4,6 +4,7 @@ use Rattle.hub.proofs.Follows.{exchange_follows, failed_follows}
 use Rattle.hub.proofs.Lively.{world_inside}
 use Rattle.hub.proofs.Played.{exchange_played, failed_played}
 use Rattle.hub.proofs.Scripts.{fits_now}
+use Rattle.hub.proofs.Steps.{always_err}
 use Rattle.hub.proofs.Ties.{broke_behind, has_line, one_more, plan_now}
 use Rattle.hub.proofs.engine.Engine.send.Goals as goal
 
@@ -12,8 +13,8 @@ exchange-requires-in-Ok-clause-operation g c = fits_now c.args.self.now.script c
 
 pub returns-in_err-exchange-in-Ok-clause-err : goal.returns-in_err-exchange-in-Ok-clause-err
 returns-in_err-exchange-in-Ok-clause-err g c =
-    broke_behind _ _ _ _ _ (line.Exchange c.args.actor c.args.command c.in-Ok.response) c.requires.turn.tied
-    c.push_within.ensures.lines refl refl c.in-Ok.ensures.tells c.in-Ok.ensures.tells_plan
+    always_err _ _ (broke_behind _ _ _ _ _ (line.Exchange c.args.actor c.args.command c.in-Ok.response) c.requires.turn.tied
+    c.push_within.ensures.lines refl refl c.in-Ok.ensures.tells c.in-Ok.ensures.tells_plan)
 
 pub returns-in_ok-exchange-in-Ok-clause-line : goal.returns-in_ok-exchange-in-Ok-clause-line
 returns-in_ok-exchange-in-Ok-clause-line g c =

@@ -1,5 +1,5 @@
 use Rattle.std.proofs.Common.{◌∙◌, sym, refl, ap, arith}
-use Rattle.hub.proofs.Steps.{always_err, awake_pending, broken, first_turning, from_start, may_publish, next_turning, published_turning, since, stays_then, steps_fall}
+use Rattle.hub.proofs.Steps.{always_err, awake_pending, broken, first_turning, from_start, may_publish, next_turning, other_performed, published_turning, since, stays_then, steps_fall}
 use Rattle.hub.proofs.Turning.{under_way}
 use Rattle.hub.proofs.engine.Engine.take_turn.Goals as goal
 
@@ -38,10 +38,10 @@ lines-preserved-in_ok-publish-in-Publish-3 g c = record {
 }
 
 pub perform-requires : goal.perform-requires
-perform-requires g c = let n = c.in_default.not-Publish in record {
+perform-requires g c = record {
   turn = under_way _ _ _ _ c.lines.invariant.turning;
   due = sym c.next-line.ensures;
-  performed = ?;
+  performed = other_performed c.next-line.result (sym c.ends_turn.ensures ∙ c.if-ends_turn.false) c.in_default.not-Publish;
 }
 
 pub returns-in_err-perform-in_default-clause-err : goal.returns-in_err-perform-in_default-clause-err
