@@ -1,4 +1,6 @@
-pub mod Fits
-pub mod Pasts
-pub mod Steps
-pub mod Turns
+pub mod Laws
+pub mod Marks
+pub mod Left
+pub mod Rounds
+pub mod Taken
+pub mod Ends
