@@ -24,6 +24,10 @@ told_of : (world : Option World) (P : Type 0) → IfSome world (λ w. P) → IsS
 told_of None P h told = absurd (cc)
 told_of (Some w) P h told = h
 
+pub still_pending : (finished : Bool) → not finished ≡ true → finished ≡ false
+still_pending true h = absurd (cc)
+still_pending false h = refl
+
 spent_by : (finished few : Bool) → finished ≡ false → (not finished && few) ≡ false → few ≡ false
 spent_by true few unfinished ended = absurd (cc)
 spent_by false few unfinished ended = ended
@@ -39,7 +43,7 @@ to_spent h b events u due unfinished ended is =
       served = u.served;
       lines = h.lines;
       run = record {
-        due = due.followed;
+        followed = due.followed;
         whole = due.ends;
         legal = lines_are_legal s in_replay h.lines u.rules u.served due.followed (told_of h.world (are_told s h.lines ≡ true) due.told u.told) u.placed;
         unfinished = unfinished;

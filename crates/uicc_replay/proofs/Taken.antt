@@ -1,5 +1,5 @@
 -- A turn of a replay, by what the hub's turn came to.
-use Rattle.std.proofs.Common.{◌≡◌, ℕ, ◌+◌, ◌||◌, Bool, true, false, List, [], ◌∷◌, ◌++◌, Option, Some, None, refl, ap, sym, ◌∙◌, subst}
+use Rattle.std.proofs.Common.{◌≡◌, ◌⊎◌, inl, inr, ℕ, ◌+◌, ◌||◌, Bool, true, false, List, [], ◌∷◌, ◌++◌, Option, Some, None, refl, ap, sym, ◌∙◌, subst}
 use Rattle.std.specs.Prelude.{is_some}
 use Rattle.script_reader.specs.declared.types.Script.{Script}
 use Rattle.report.specs.declared.line.Mode.TheVariants.{Replay as in_replay}
@@ -16,7 +16,7 @@ use Rattle.hub.specs.declared.turn.Turn.{Turn}
 use Rattle.hub.specs.declared.turn.Turn.TheVariants.{Moved, Waits, Ended}
 use Rattle.uicc_replay.specs.Budget.{within_budget}
 use Rattle.uicc_replay.specs.Rounds.{goes_on, kept_in, IsUnderWay, AdvancesBy, HasTurned}
-use Rattle.uicc_replay.specs.declared.replay.Replay.{Replay}
+use Rattle.uicc_replay.specs.declared.replay.Run.{Run}
 use Rattle.uicc_replay.proofs.Laws.{marks_leave_open}
 use Rattle.uicc_replay.proofs.Marks.{added_marks, added_placed, added_within, mark_placed, mark_within}
 use Rattle.uicc_replay.proofs.Left.{is_unspent, moved_less}
@@ -36,7 +36,7 @@ waits_by true waits on h = refl
 waits_by false (Some other) on h = refl
 waits_by false None on h = absurd (cc)
 
-pub is_waiting : (s : Script) (k : Kept) (a on : ℕ) → Waits on ≡ turn_answer s k a → is_idle s k a ≡ true
+is_waiting : (s : Script) (k : Kept) (a on : ℕ) → Waits on ≡ turn_answer s k a → is_idle s k a ≡ true
 is_waiting s k a on h = waits_by (has_ended s k a) (waits_on s k a) on h
 
 ended_by : (ended : Bool) (waits : Option ℕ) → Ended ≡ elim ended [ true ↦ Ended | false ↦ waits_or_moves waits ] → (ended || is_some waits) ≡ true
@@ -44,12 +44,16 @@ ended_by true waits h = refl
 ended_by false (Some on) h = absurd (cc)
 ended_by false None h = absurd (cc)
 
-pub is_ended : (s : Script) (k : Kept) (a : ℕ) → Ended ≡ turn_answer s k a → is_idle s k a ≡ true
+is_ended : (s : Script) (k : Kept) (a : ℕ) → Ended ≡ turn_answer s k a → is_idle s k a ≡ true
 is_ended s k a h = ended_by (has_ended s k a) (waits_on s k a) h
+
+pub is_resting : (s : Script) (k : Kept) (a : ℕ) (t : Turn) → ((on : ℕ) × (t ≡ Waits on)) ⊎ (t ≡ Ended) → t ≡ turn_answer s k a → is_idle s k a ≡ true
+is_resting s k a t (inl waits) h = is_waiting s k a waits.0 (sym waits.1 ∙ h)
+is_resting s k a t (inr ended) h = is_ended s k a (sym ended ∙ h)
 
 -- ---- the run behind it
 
-abbrev pub run : HubValue → ℕ → Replay
+abbrev pub run : HubValue → ℕ → Run
 run h b = record { hub = h; budget = b }
 
 pub took_turn : (a : ℕ) (h h2 : HubValue) (b : ℕ) → IsUnderWay h.script (run h b) → goes_on h.script (kept_of h.script h.lines) ≡ true → a ≡ scheduled_actor h.script (kept_of h.script h.lines).marks

@@ -23,14 +23,14 @@ pub record IsReplay (r : Report) : Type 0 where
   pub within : within_budget r.script r.lines ≡ true
 
 -- whole turns of a run that is not finished, each begun before the budget was spent, which it is by so many events
-pub record IsSpentRun (s : Script) (lines : List Line) (events : ℕ) : Type 0 where
-  pub due : are_followed s lines ≡ true
+pub record IsSpentRun (s : Script) (lines : List Line) (n : ℕ) : Type 0 where
+  pub followed : are_followed s lines ≡ true
   pub whole : ends_turn (due s (kept_of s lines)) ≡ true
   pub legal : are_legal_lines s Replay lines ≡ true
   pub unfinished : is_finished s (kept_of s lines) ≡ false
   pub within : within_budget s lines ≡ true
-  pub events : events ≡ (kept_of s lines).history.events
-  pub spent : budget_of s ≤ events
+  pub events : n ≡ (kept_of s lines).history.events
+  pub spent : budget_of s ≤ n
 
 -- there is such a run of the script, which is served
 pub record IsSpent (s : Script) (events : ℕ) : Type 0 where

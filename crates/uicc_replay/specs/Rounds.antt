@@ -12,14 +12,14 @@ use Rattle.performed.specs.Placed.{are_placed}
 use Rattle.performed.specs.Progress.{operations_left, stale_count}
 use Rattle.performed.specs.Laws.{LeavesOpen}
 use Rattle.uicc_replay.specs.Budget.{budget_of, within_budget}
-use Rattle.uicc_replay.specs.declared.replay.Replay.{Replay}
+use Rattle.uicc_replay.specs.declared.replay.Run.{Run}
 
 -- what is kept of the lines so far
-abbrev pub kept_in : Script → Replay → Kept
+abbrev pub kept_in : Script → Run → Kept
 kept_in s r = kept_of s r.hub.lines
 
 -- a run of a script that is served, in the order of its schedule and within its budget
-pub record IsUnderWay (s : Script) (r : Replay) : Type 0 where
+pub record IsUnderWay (s : Script) (r : Run) : Type 0 where
   pub script : r.hub.script ≡ s
   pub budget : r.budget ≡ budget_of s
   pub rules : keeps_rules s ≡ true
@@ -56,13 +56,13 @@ AdvancesBy true s before after = LeavesOpen s before after
 AdvancesBy false s before after = work_left s after < work_left s before
 
 -- a turn of the actor was taken
-pub record HasTurned (actor : ℕ) (s : Script) (before after : Replay) : Type 0 where
+pub record HasTurned (actor : ℕ) (s : Script) (before after : Run) : Type 0 where
   pub under_way : IsUnderWay s after
   pub marks : (kept_in s after).marks ≡ (kept_in s before).marks + 1
   pub advances : AdvancesBy (is_idle s (kept_in s before) actor) s (kept_in s before) (kept_in s after)
 
 -- a round was taken, unless the run ended within it
-pub record HasGoneRound (s : Script) (before after : Replay) : Type 0 where
+pub record HasGoneRound (s : Script) (before after : Run) : Type 0 where
   pub under_way : IsUnderWay s after
   pub round : BeginsRound s (kept_in s after)
   pub nearer : work_left s (kept_in s after) < work_left s (kept_in s before)

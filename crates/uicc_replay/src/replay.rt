@@ -29,7 +29,7 @@ pub enum Replayed {
 
 /// A run of a script over a simulated card.
 #[derive(Drop)]
-struct Replay {
+struct Run {
     hub: Hub<SimSlot>,
     /// The run may have so many events.
     budget: u64,
@@ -57,8 +57,8 @@ fn slot_of(alloc: Global, script: &Script) -> Result<SimSlot, Memory>
     SimSlot::new(alloc, images, changes, faults)
 }
 
-impl Replay {
-    fn new(alloc: Global, script: Script) -> Result<Replay, Memory>
+impl Run {
+    fn new(alloc: Global, script: Script) -> Result<Run, Memory>
         requires rules { keeps_rules script ≡ true }
         requires served { serves script ≡ true }
         ensures under_way { IfOk result (IsUnderWay script) }
@@ -67,7 +67,7 @@ impl Replay {
         let slot = slot_of(alloc, &script)?;
         let budget = budget_of(&script);
         let hub = Hub::new(alloc, slot, script)?;
-        Ok(Replay { hub, budget })
+        Ok(Run { hub, budget })
     }
 
     /// Whether a further turn comes.
@@ -166,7 +166,7 @@ impl Replay {
             let events = self.hub.events();
             return Ok(Replayed::Spent { events });
         }
-        let Replay { hub, budget: _ } = self;
+        let Run { hub, budget: _ } = self;
         let report = hub.finish(Mode::Replay)?;
         Ok(Replayed::Finished(report))
     }
@@ -179,7 +179,7 @@ pub fn replay(alloc: Global, script: Script) -> Result<Replayed, Memory>
     requires served { serves script ≡ true }
     ensures { IfOk result (IsReplayed script) }
 {
-    let mut run = Replay::new(alloc, script)?;
+    let mut run = Run::new(alloc, script)?;
     run.by_schedule()?;
     run.by_rounds()?;
     run.end()

@@ -1,10 +1,8 @@
 // All that the program does, over any source and sink.
-ghost use Rattle.std.specs.Prelude.{◌≡◌, ◌≢◌, ◌⊎◌, false, IsTrue, IsSomeAnd, IfSome, None};
+ghost use Rattle.std.specs.Prelude.{◌≡◌, ◌≢◌, ◌⊎◌, true, false, IsTrue, IsSomeAnd, IfSome, None};
 ghost use Rattle.apdu.specs.Stream.{Rose};
 ghost use Rattle.streams.specs.Streams.{HasMore, Wrote};
 ghost use Rattle.script_reader.specs.Rules.{keeps_rules};
-ghost use Rattle.performed.specs.Served.{serves as is_served};
-ghost use Rattle.uicc_replay.specs.Replay.{IsReplay, IsSpent};
 ghost use Rattle.uicc_replay.specs.Top.{is_replay, line_of, is_status, script_limit, IsDue, IsDueOfBytes, IsDueOfScript, IsDueOfReport, IsDueOfBudget, IsDueOfLine, IsRefused, IsReplayed, IsBudgetSpent, WritesPart, Writes, Ends};
 
 use crate::replay::{Replayed, replay};
