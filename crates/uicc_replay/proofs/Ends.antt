@@ -12,12 +12,12 @@ use Rattle.rules.specs.After.{kept_of}
 use Rattle.rules.specs.Legal.{legal}
 use Rattle.rules.specs.Work.{is_finished}
 use Rattle.performed.specs.Served.{serves}
+use Rattle.performed.specs.Laws.{LinesAreLegal}
 use Rattle.performed.specs.Told.{are_told}
 use Rattle.hub.specs.Hub.{HubValue, IsDueSoFar}
 use Rattle.uicc_replay.specs.Budget.{budget_of, within_budget}
 use Rattle.uicc_replay.specs.Replay.{IsReplay, IsSpent}
 use Rattle.uicc_replay.specs.Rounds.{goes_on, IsUnderWay}
-use Rattle.uicc_replay.proofs.Laws.{lines_are_legal}
 use Rattle.uicc_replay.proofs.Taken.{run}
 
 told_of : (world : Option World) (P : Type 0) → IfSome world (λ w. P) → IsSome world → P
@@ -33,9 +33,9 @@ spent_by true few unfinished ended = absurd (cc)
 spent_by false few unfinished ended = ended
 
 -- a run that is not finished and has no further turn has spent its budget
-pub to_spent : (h : HubValue) (b events : ℕ) → IsUnderWay h.script (run h b) → IsDueSoFar h → is_finished h.script (kept_of h.script h.lines) ≡ false → goes_on h.script (kept_of h.script h.lines) ≡ false
+pub to_spent : LinesAreLegal → (h : HubValue) (b events : ℕ) → IsUnderWay h.script (run h b) → IsDueSoFar h → is_finished h.script (kept_of h.script h.lines) ≡ false → goes_on h.script (kept_of h.script h.lines) ≡ false
     → events ≡ (kept_of h.script h.lines).history.events → IsSpent h.script events
-to_spent h b events u due unfinished ended is =
+to_spent laws h b events u due unfinished ended is =
     let s = h.script in
     let k = kept_of s h.lines in
     let spent : nat_lt k.history.events (budget_of s) ≡ false = spent_by (is_finished s k) (nat_lt k.history.events (budget_of s)) unfinished ended in
@@ -45,7 +45,7 @@ to_spent h b events u due unfinished ended is =
       run = record {
         followed = due.followed;
         whole = due.ends;
-        legal = lines_are_legal s in_replay h.lines u.rules u.served due.followed (told_of h.world (are_told s h.lines ≡ true) due.told u.told) u.placed;
+        legal = laws s in_replay h.lines u.rules u.served due.followed (told_of h.world (are_told s h.lines ≡ true) due.told u.told) u.placed;
         unfinished = unfinished;
         within = u.within;
         events = is;

@@ -9,6 +9,7 @@ use Rattle.rules.specs.declared.kept.Kept.{Kept}
 use Rattle.rules.specs.After.{kept_of}
 use Rattle.rules.specs.Rules.{scheduled_actor}
 use Rattle.rules.specs.Work.{is_idle, has_ended, waits_on}
+use Rattle.performed.specs.Laws.{MarksLeaveOpen}
 use Rattle.performed.specs.Placed.{are_placed}
 use Rattle.performed.specs.Progress.{Moves}
 use Rattle.hub.specs.Hub.{HubValue, TakesTurn, kept_now, turn_answer, waits_or_moves}
@@ -17,7 +18,6 @@ use Rattle.hub.specs.declared.turn.Turn.TheVariants.{Moved, Waits, Ended}
 use Rattle.uicc_replay.specs.Budget.{within_budget}
 use Rattle.uicc_replay.specs.Rounds.{goes_on, kept_in, IsUnderWay, AdvancesBy, HasTurned}
 use Rattle.uicc_replay.specs.declared.replay.Run.{Run}
-use Rattle.uicc_replay.proofs.Laws.{marks_leave_open}
 use Rattle.uicc_replay.proofs.Marks.{added_marks, added_placed, added_within, mark_placed, mark_within}
 use Rattle.uicc_replay.proofs.Left.{is_unspent, moved_less}
 
@@ -82,9 +82,9 @@ took_turn a h h2 b u going scheduled awake t =
 abbrev pub with_mark : ℕ → HubValue → HubValue
 with_mark a h = record h { lines = line.Turn a ∷ h.lines }
 
-marked : (a : ℕ) (h : HubValue) (b : ℕ) → IsUnderWay h.script (run h b) → goes_on h.script (kept_of h.script h.lines) ≡ true → a ≡ scheduled_actor h.script (kept_of h.script h.lines).marks
+marked : MarksLeaveOpen → (a : ℕ) (h : HubValue) (b : ℕ) → IsUnderWay h.script (run h b) → goes_on h.script (kept_of h.script h.lines) ≡ true → a ≡ scheduled_actor h.script (kept_of h.script h.lines).marks
     → is_idle h.script (kept_of h.script h.lines) a ≡ true → HasTurned a h.script (run h b) (run (with_mark a h) b)
-marked a h b u going scheduled idle =
+marked laws a h b u going scheduled idle =
     let s = h.script in
     record {
       under_way = record {
@@ -98,10 +98,10 @@ marked a h b u going scheduled idle =
         within = mark_within s a h.lines (is_unspent s (kept_of s h.lines) going) u.within;
       };
       marks = refl;
-      advances = subst (λ (b2 : Bool). AdvancesBy b2 s (kept_of s h.lines) (kept_of s (line.Turn a ∷ h.lines))) (sym idle) (marks_leave_open s (kept_of s h.lines) a);
+      advances = subst (λ (b2 : Bool). AdvancesBy b2 s (kept_of s h.lines) (kept_of s (line.Turn a ∷ h.lines))) (sym idle) (laws s (kept_of s h.lines) a);
     }
 
-pub took_mark : (a : ℕ) (h h1 h2 : HubValue) (b : ℕ) → IsUnderWay h.script (run h b) → goes_on h.script (kept_of h.script h.lines) ≡ true → a ≡ scheduled_actor h.script (kept_of h.script h.lines).marks
+pub took_mark : MarksLeaveOpen → (a : ℕ) (h h1 h2 : HubValue) (b : ℕ) → IsUnderWay h.script (run h b) → goes_on h.script (kept_of h.script h.lines) ≡ true → a ≡ scheduled_actor h.script (kept_of h.script h.lines).marks
     → is_idle h.script (kept_of h.script h.lines) a ≡ true → h1 ≡ h → h2 ≡ with_mark a h1 → HasTurned a h.script (run h b) (run h2 b)
-took_mark a h h1 h2 b u going scheduled idle same is =
-    subst (λ (x : HubValue). HasTurned a h.script (run h b) (run x b)) (sym (is ∙ ap (with_mark a) same)) (marked a h b u going scheduled idle)
+took_mark laws a h h1 h2 b u going scheduled idle same is =
+    subst (λ (x : HubValue). HasTurned a h.script (run h b) (run x b)) (sym (is ∙ ap (with_mark a) same)) (marked laws a h b u going scheduled idle)

@@ -6,10 +6,10 @@ use Rattle.rules.specs.After.{kept_of}
 use Rattle.rules.specs.Kept.{actor_count}
 use Rattle.rules.specs.Rules.{scheduled_actor}
 use Rattle.rules.specs.Work.{is_idle}
+use Rattle.performed.specs.Laws.{SomebodyMoves}
 use Rattle.hub.specs.Hub.{IsDueSoFar}
 use Rattle.uicc_replay.specs.Rounds.{goes_on, kept_in, IsUnderWay, AreRounds, HasTurned, HasGoneRound}
 use Rattle.uicc_replay.specs.declared.replay.Run.{Run}
-use Rattle.uicc_replay.proofs.Laws.{somebody_moves}
 use Rattle.uicc_replay.proofs.Left.{SoFar, so_far_more, gone_round, ended_within, is_unfinished}
 use Rattle.uicc_replay.proofs.Rounds.{known_in_schedule, scheduled_first, scheduled_round, round_more}
 
@@ -59,12 +59,12 @@ round_ended s first r a h going ended = record {
 }
 
 -- every actor had its turn
-pub round_gone : (first r : Run) (a : ℕ) → InRound first.hub.script first r a → IsUnderWay first.hub.script first → AreRounds first.hub.script (kept_in first.hub.script first).marks → IsDueSoFar first.hub → goes_on first.hub.script (kept_in first.hub.script first) ≡ true
+pub round_gone : SomebodyMoves → (first r : Run) (a : ℕ) → InRound first.hub.script first r a → IsUnderWay first.hub.script first → AreRounds first.hub.script (kept_in first.hub.script first).marks → IsDueSoFar first.hub → goes_on first.hub.script (kept_in first.hub.script first) ≡ true
     → a ≡ actor_count first.hub.script + 1 → HasGoneRound first.hub.script first r
-round_gone first r a h u rounds due going all =
+round_gone laws first r a h u rounds due going all =
     let s = first.hub.script in
     record {
       under_way = h.under_way;
       round = λ further. round_more s (kept_in s first).marks (kept_in s r).marks rounds (let marks = h.marks in omega arith);
-      nearer = gone_round s (kept_in s first) (kept_in s r) a (omega arith) (somebody_moves s first.hub.lines u.served due.followed (is_unfinished s (kept_in s first) going)) h.so_far;
+      nearer = gone_round s (kept_in s first) (kept_in s r) a (omega arith) (laws s first.hub.lines u.served due.followed (is_unfinished s (kept_in s first) going)) h.so_far;
     }

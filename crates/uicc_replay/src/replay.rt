@@ -13,6 +13,7 @@ ghost use Rattle.uicc_replay.specs.Rounds.{IsUnderWay, HasTurned, HasGoneRound, 
 
 use apdu::Memory;
 use hub::{Hub, Turn};
+use performed::{due_lines_are_legal, marks_leave_open, somebody_moves_until_finished};
 use report::{Mode, Report};
 use script::Script;
 use sim_card::SimSlot;
@@ -92,7 +93,10 @@ impl Run {
     {
         match self.hub.turn(actor)? {
             Turn::Moved => Ok(()),
-            Turn::Waits { .. } | Turn::Ended => self.hub.note_idle(actor),
+            Turn::Waits { .. } | Turn::Ended => {
+                marks_leave_open();
+                self.hub.note_idle(actor)
+            }
         }
     }
 
@@ -139,6 +143,7 @@ impl Run {
             }
             self.take_turn(actor)?;
         }
+        somebody_moves_until_finished();
         Ok(())
     }
 
@@ -163,6 +168,7 @@ impl Run {
         ensures { IfOk result (IsReplayed self.hub.script) }
     {
         if self.hub.pending() {
+            due_lines_are_legal();
             let events = self.hub.events();
             return Ok(Replayed::Spent { events });
         }

@@ -6,7 +6,7 @@ pub returns-then-pending : goal.returns-then-pending
 returns-then-pending c =
     let u = c.requires.under_way in
     let pending = sym (c.pending.ensures.value u.whole) ∙ c.if-pending.true in
-    to_spent c.args.self.hub c.args.self.budget c.events-events.result u (c.pending.ensures.due u.whole) (still_pending _ pending) c.requires.ends (c.events-events.ensures u.whole)
+    to_spent c.due_lines_are_legal.ensures c.args.self.hub c.args.self.budget c.events-events.result u (c.pending.ensures.due u.whole) (still_pending _ pending) c.requires.ends (c.events-events.ensures u.whole)
 
 pub returns : goal.returns
 returns c =

@@ -28,4 +28,4 @@ pub returns-in-Waits : goal.returns-in-Waits
 returns-in-Waits c =
     let h = c.args.self.now.hub in
     let idle : is_idle h.script (kept_now h) c.args.actor ≡ true = is_resting h.script (kept_now h) c.args.actor c.in_ok-turn.field-0 c.in-Waits.is c.in_ok-turn.ensures.answer in
-    on_ok_weaker c.note_idle.result (λ is. took_mark c.args.actor h c.turn.new.self c.note_idle.new.self c.args.self.now.budget c.requires.under_way c.requires.going c.requires.scheduled idle (c.in_ok-turn.ensures.idle idle) is) c.note_idle.ensures.ok
+    on_ok_weaker c.note_idle.result (λ is. took_mark c.marks_leave_open.ensures c.args.actor h c.turn.new.self c.note_idle.new.self c.args.self.now.budget c.requires.under_way c.requires.going c.requires.scheduled idle (c.in_ok-turn.ensures.idle idle) is) c.note_idle.ensures.ok
