@@ -1,5 +1,5 @@
 -- How a replay ends.
-use Rattle.std.proofs.Common.{◌≡◌, ◌≤◌, ℕ, ◌&&◌, not, Bool, true, false, nat_lt, List, Option, Some, None, refl, ap, sym, ◌∙◌, subst}
+use Rattle.std.proofs.Common.{◌≡◌, ◌≤◌, ℕ, ◌&&◌, not, Bool, true, false, nat_lt, List, Option, Some, None, refl, sym, subst}
 use Rattle.std.specs.Prelude.{IfSome, IsSome}
 use Rattle.std.proofs.lemmas.Bool.{ltb-false}
 use Rattle.card_model.specs.declared.world.World.{World}
@@ -7,7 +7,6 @@ use Rattle.script_reader.specs.declared.types.Script.{Script}
 use Rattle.report.specs.declared.line.Mode.TheVariants.{Replay as in_replay}
 use Rattle.report.specs.declared.line.Line.{Line}
 use Rattle.report.specs.declared.lines.Report.{Report}
-use Rattle.rules.specs.declared.kept.Kept.{Kept}
 use Rattle.rules.specs.After.{kept_of}
 use Rattle.rules.specs.Legal.{legal}
 use Rattle.rules.specs.Work.{is_finished}

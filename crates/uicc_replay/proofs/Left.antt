@@ -1,5 +1,5 @@
 -- What a turn leaves to do.
-use Rattle.std.proofs.Common.{◌≡◌, ◌⊎◌, inl, inr, ℕ, ◌+◌, ◌-◌, ◌*◌, ◌<◌, ◌≤◌, ◌&&◌, not, Bool, true, false, nat_lt, List, [], ◌∷◌, length, map, refl, ap, sym, ◌∙◌, subst, arith}
+use Rattle.std.proofs.Common.{◌≡◌, ◌⊎◌, inl, inr, ℕ, ◌+◌, ◌-◌, ◌*◌, ◌<◌, ◌≤◌, not, Bool, true, false, nat_lt, List, [], ◌∷◌, length, refl, ap, sym, ◌∙◌, arith}
 use Rattle.std.proofs.lemmas.Bool.{and_parts, ltb-true}
 use Rattle.std.proofs.lemmas.List.{length-map}
 use borrow.Author.Count.{below_more}
@@ -99,12 +99,3 @@ gone_round s k0 k n all awake (inr h) =
     let idle : is_idle s k0 awake.actor ≡ true = h.idle awake.actor (omega arith) in
     let moves : is_idle s k0 awake.actor ≡ false = awake.moves in
     absurd (cc)
-
-same_going : (s : Script) (k0 k : Kept) → LeavesOpen s k0 k → goes_on s k ≡ goes_on s k0
-same_going s k0 k h =
-    ap (λ (b : Bool). not b && nat_lt k.history.events (budget_of s)) h.finished ∙ ap (λ (n : ℕ). not (is_finished s k0) && nat_lt n (budget_of s)) h.events
-
--- a run that ends within a round ends by a turn of it that had something to do
-pub ended_within : (s : Script) (k0 k : Kept) (n : ℕ) → goes_on s k0 ≡ true → goes_on s k ≡ false → SoFar s k0 k n → work_left s k < work_left s k0
-ended_within s k0 k n going ended (inl less) = less
-ended_within s k0 k n going ended (inr h) = let same = same_going s k0 k h.same in absurd (cc)

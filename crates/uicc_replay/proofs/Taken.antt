@@ -1,5 +1,5 @@
 -- A turn of a replay, by what the hub's turn came to.
-use Rattle.std.proofs.Common.{◌≡◌, ◌⊎◌, inl, inr, ℕ, ◌+◌, ◌||◌, Bool, true, false, List, [], ◌∷◌, ◌++◌, Option, Some, None, refl, ap, sym, ◌∙◌, subst}
+use Rattle.std.proofs.Common.{◌≡◌, ◌⊎◌, inl, inr, ℕ, ◌||◌, Bool, true, false, List, ◌∷◌, Option, Some, None, refl, ap, sym, ◌∙◌, subst}
 use Rattle.std.specs.Prelude.{is_some}
 use Rattle.script_reader.specs.declared.types.Script.{Script}
 use Rattle.report.specs.declared.line.Mode.TheVariants.{Replay as in_replay}
@@ -12,11 +12,11 @@ use Rattle.rules.specs.Work.{is_idle, has_ended, waits_on}
 use Rattle.performed.specs.Laws.{MarksLeaveOpen}
 use Rattle.performed.specs.Placed.{are_placed}
 use Rattle.performed.specs.Progress.{Moves}
-use Rattle.hub.specs.Hub.{HubValue, TakesTurn, kept_now, turn_answer, waits_or_moves}
+use Rattle.hub.specs.Hub.{HubValue, TakesTurn, turn_answer, waits_or_moves}
 use Rattle.hub.specs.declared.turn.Turn.{Turn}
 use Rattle.hub.specs.declared.turn.Turn.TheVariants.{Moved, Waits, Ended}
 use Rattle.uicc_replay.specs.Budget.{within_budget}
-use Rattle.uicc_replay.specs.Rounds.{goes_on, kept_in, IsUnderWay, AdvancesBy, HasTurned}
+use Rattle.uicc_replay.specs.Rounds.{goes_on, IsUnderWay, AdvancesBy, HasTurned}
 use Rattle.uicc_replay.specs.declared.replay.Run.{Run}
 use Rattle.uicc_replay.proofs.Marks.{added_marks, added_placed, added_within, mark_placed, mark_within}
 use Rattle.uicc_replay.proofs.Left.{is_unspent, moved_less}

@@ -1,5 +1,5 @@
 -- The turns of the schedule and of a round.
-use Rattle.std.proofs.Common.{◌≡◌, ℕ, ◌+◌, ◌<◌, ◌≤◌, List, length, get_or, refl, ap, sym, ◌∙◌, subst, arith, true, false}
+use Rattle.std.proofs.Common.{◌≡◌, ℕ, ◌+◌, ◌<◌, ◌≤◌, List, length, get_or, refl, sym, subst, arith, true}
 use Rattle.std.proofs.lemmas.Option.{slice_get-get_or}
 use Rattle.script_reader.specs.declared.types.Script.{Script}
 use Rattle.rules.specs.After.{kept_of}
@@ -10,7 +10,7 @@ use Rattle.performed.specs.Laws.{SomebodyMoves}
 use Rattle.hub.specs.Hub.{IsDueSoFar}
 use Rattle.uicc_replay.specs.Rounds.{goes_on, kept_in, IsUnderWay, AreRounds, HasTurned, HasGoneRound}
 use Rattle.uicc_replay.specs.declared.replay.Run.{Run}
-use Rattle.uicc_replay.proofs.Left.{SoFar, so_far_more, gone_round, ended_within, is_unfinished}
+use Rattle.uicc_replay.proofs.Left.{SoFar, so_far_more, gone_round, is_unfinished}
 use Rattle.uicc_replay.proofs.Rounds.{known_in_schedule, scheduled_first, scheduled_round, round_more}
 
 -- ---- the schedule
@@ -49,14 +49,6 @@ turned_in_round s first r r2 a h there =
       marks = omega arith;
       so_far = so_far_more s (kept_in s first) (kept_in s r) (kept_in s r2) a (is_idle s (kept_in s r) a) refl t.advances h.so_far;
     }
-
--- the run ended within the round
-pub round_ended : (s : Script) (first r : Run) (a : ℕ) → InRound s first r a → goes_on s (kept_in s first) ≡ true → goes_on s (kept_in s r) ≡ false → HasGoneRound s first r
-round_ended s first r a h going ended = record {
-  under_way = h.under_way;
-  round = λ further. absurd (cc);
-  nearer = ended_within s (kept_in s first) (kept_in s r) a going ended h.so_far;
-}
 
 -- every actor had its turn
 pub round_gone : SomebodyMoves → (first r : Run) (a : ℕ) → InRound first.hub.script first r a → IsUnderWay first.hub.script first → AreRounds first.hub.script (kept_in first.hub.script first).marks → IsDueSoFar first.hub → goes_on first.hub.script (kept_in first.hub.script first) ≡ true

@@ -1,4 +1,4 @@
-use Rattle.std.proofs.Common.{◌≡◌, ◌<◌, length, ap, ◌∙◌, arith}
+use Rattle.std.proofs.Common.{length, ap, ◌∙◌, arith}
 use Rattle.script_reader.specs.declared.types.Script.{Script}
 use Rattle.uicc_replay.proofs.Turns.{schedule_known, schedule_next}
 use Rattle.uicc_replay.proofs.replay.Run.by_schedule.Goals as goal

@@ -1,4 +1,4 @@
-use Rattle.std.proofs.Common.{◌≡◌, ◌+◌, ◌≤◌, ℕ, sym, subst, refl, arith}
+use Rattle.std.proofs.Common.{◌≡◌, arith}
 use Rattle.rules.specs.Kept.{actor_count}
 use Rattle.uicc_replay.specs.Rounds.{kept_in}
 use Rattle.uicc_replay.proofs.Turns.{round_next, turned_in_round, round_gone}
