@@ -2,3 +2,4 @@ pub mod Scripts
 pub mod Ties
 pub mod Follows
 pub mod Premises
+pub mod DueSoFar

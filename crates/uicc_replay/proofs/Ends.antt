@@ -13,7 +13,8 @@ use Rattle.rules.specs.Work.{is_finished}
 use Rattle.performed.specs.Served.{serves}
 use Rattle.performed.specs.Laws.{LinesAreLegal}
 use Rattle.performed.specs.Told.{are_told}
-use Rattle.hub.specs.Hub.{HubValue, IsDueSoFar}
+use Rattle.hub.specs.Hub.{HubValue}
+use Rattle.hub.specs.DueSoFar.{IsDueSoFar}
 use Rattle.uicc_replay.specs.Budget.{budget_of, within_budget}
 use Rattle.uicc_replay.specs.Replay.{IsReplay, IsSpent}
 use Rattle.uicc_replay.specs.Rounds.{goes_on, IsUnderWay}
@@ -23,9 +24,10 @@ told_of : (world : Option World) (P : Type 0) → IfSome world (λ w. P) → IsS
 told_of None P h told = absurd (cc)
 told_of (Some w) P h told = h
 
-pub still_pending : (finished : Bool) → not finished ≡ true → finished ≡ false
-still_pending true h = absurd (cc)
-still_pending false h = refl
+pub still_pending : (whole finished : Bool) → whole ≡ true → (whole && not finished) ≡ true → finished ≡ false
+still_pending false finished whole h = absurd (cc)
+still_pending true true whole h = absurd (cc)
+still_pending true false whole h = refl
 
 spent_by : (finished few : Bool) → finished ≡ false → (not finished && few) ≡ false → few ≡ false
 spent_by true few unfinished ended = absurd (cc)

@@ -7,7 +7,7 @@ use Rattle.rules.specs.Kept.{actor_count}
 use Rattle.rules.specs.Rules.{scheduled_actor}
 use Rattle.rules.specs.Work.{is_idle}
 use Rattle.performed.specs.Laws.{SomebodyMoves}
-use Rattle.hub.specs.Hub.{IsDueSoFar}
+use Rattle.hub.specs.DueSoFar.{IsDueSoFar}
 use Rattle.uicc_replay.specs.Rounds.{goes_on, kept_in, IsUnderWay, AreRounds, HasTurned, HasGoneRound}
 use Rattle.uicc_replay.specs.declared.replay.Run.{Run}
 use Rattle.uicc_replay.proofs.Left.{SoFar, so_far_more, gone_round, is_unfinished}

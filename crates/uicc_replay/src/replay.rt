@@ -5,7 +5,6 @@ ghost use Rattle.script_reader.specs.World.{first_world};
 ghost use Rattle.rules.specs.Kept.{actor_count};
 ghost use Rattle.rules.specs.Rules.{scheduled_actor};
 ghost use Rattle.performed.specs.Served.{serves};
-ghost use Rattle.hub.specs.Hub.{IsDueSoFar};
 ghost use Rattle.uicc_replay.specs.Budget as spec;
 ghost use Rattle.uicc_replay.specs.Replay.{IsReplayed};
 ghost use Rattle.uicc_replay.specs.Rounds as runs;
@@ -74,9 +73,7 @@ impl Run {
     /// Whether a further turn comes.
     fn goes_on(&self) -> bool
         requires { IsUnderWay self.now.hub.script self.now }
-        ensures value { result
-            ≡ runs.goes_on self.now.hub.script (kept_in self.now.hub.script self.now) }
-        ensures due { IsDueSoFar self.now.hub }
+        ensures { result ≡ runs.goes_on self.now.hub.script (kept_in self.now.hub.script self.now) }
     {
         self.hub.pending() && self.hub.events() < self.budget
     }
@@ -132,18 +129,18 @@ impl Run {
         requires under_way { IsUnderWay self.old.hub.script self.old }
         requires going { runs.goes_on self.old.hub.script (kept_in self.old.hub.script self.old)
             ≡ true }
-        requires due { IsDueSoFar self.old.hub }
         requires round { AreRounds self.old.hub.script
             (kept_in self.old.hub.script self.old).marks }
         ensures { OnOk result (HasGoneRound self.old.hub.script self.old self.new) }
     {
+        self.hub.lines_are_due();
+        somebody_moves_until_finished();
         for actor in 0..self.last_actor() + 1 {
             if !self.goes_on() {
                 return Ok(());
             }
             self.take_turn(actor)?;
         }
-        somebody_moves_until_finished();
         Ok(())
     }
 
@@ -168,6 +165,7 @@ impl Run {
         ensures { IfOk result (IsReplayed self.hub.script) }
     {
         if self.hub.pending() {
+            self.hub.lines_are_due();
             due_lines_are_legal();
             let events = self.hub.events();
             return Ok(Replayed::Spent { events });

@@ -5,8 +5,8 @@ use Rattle.uicc_replay.proofs.replay.Run.end.Goals as goal
 pub returns-then-pending : goal.returns-then-pending
 returns-then-pending c =
     let u = c.requires.under_way in
-    let pending = sym (c.pending.ensures.value u.whole) ∙ c.if-pending.true in
-    to_spent c.due_lines_are_legal.ensures c.args.self.hub c.args.self.budget c.events-events.result u (c.pending.ensures.due u.whole) (still_pending _ pending) c.requires.ends (c.events-events.ensures u.whole)
+    let pending = still_pending _ _ u.whole (sym c.pending.ensures ∙ c.if-pending.true) in
+    to_spent c.due_lines_are_legal.ensures c.args.self.hub c.args.self.budget c.events-events.result u (c.lines_are_due.ensures u.whole) pending c.requires.ends (c.events-events.ensures u.whole)
 
 pub returns : goal.returns
 returns c =

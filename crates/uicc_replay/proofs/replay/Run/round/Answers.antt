@@ -18,4 +18,4 @@ loop-actor-preserved c =
 pub returns : goal.returns
 returns c =
     let last : c.last_actor-actor-end.result ≡ actor_count c.args.self.now.hub.script = c.last_actor-actor-end.ensures.value in
-    round_gone c.somebody_moves_until_finished.ensures c.args.self.now c.loop-actor.self c.loop-actor.actor c.loop-actor.invariant c.requires.under_way c.requires.round c.requires.due c.requires.going (omega arith)
+    round_gone c.somebody_moves_until_finished.ensures c.args.self.now c.loop-actor.self c.loop-actor.actor c.loop-actor.invariant c.requires.under_way c.requires.round (c.lines_are_due.ensures c.requires.under_way.whole) c.requires.going (omega arith)
