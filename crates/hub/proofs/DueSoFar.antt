@@ -1,5 +1,5 @@
 -- The lines of a hub that is whole are due so far.
-use Rattle.std.proofs.Common.{◌≡◌, Bool, true, Option, subst}
+use Rattle.std.proofs.Common.{◌≡◌, Bool, true, subst}
 use Rattle.std.proofs.lemmas.Option.{IfSome_then}
 use Rattle.card_model.specs.declared.world.World.{World}
 use Rattle.card_model.specs.Slot.{Plan}

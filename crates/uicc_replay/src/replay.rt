@@ -1,4 +1,5 @@
-// The replay of a script: turns in the order of its schedule, and then round, within the budget.
+// The replay of a script: turns in the order of its schedule, and then round, within the budget. The laws of the crate performed that are
+// called, and `lines_are_due`, do nothing: the proofs rest on their contracts.
 ghost use Rattle.std.specs.Prelude.{◌≡◌, ◌≤◌, true, false, IfOk, OnOk};
 ghost use Rattle.script_reader.specs.Rules.{keeps_rules};
 ghost use Rattle.script_reader.specs.World.{first_world};
