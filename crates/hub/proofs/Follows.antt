@@ -1,5 +1,5 @@
 -- The line of each kind that is due is followed.
-use Rattle.std.proofs.Common.{◌≡◌, ◌&&◌, ◌==◌, ◌+◌, ℕ, Bool, true, false, List, [], ◌∷◌, Option, Some, None, refl, sym, ap, ◌∙◌, subst, eq-eqb}
+use Rattle.std.proofs.Common.{◌≡◌, ◌&&◌, ◌==◌, ◌+◌, ℕ, Bool, true, false, List, [], ◌∷◌, Option, Some, None, refl, sym, ap, ◌∙◌, subst, eq-eqb, le-leb, not, ◌≤◌}
 use Rattle.apdu.specs.Values.{CommandValue, ResponseValue}
 use Rattle.apdu.specs.Words.{has_value, same_bytes}
 use Rattle.card_model.specs.declared.world.WorldEvent.{WorldEvent}
@@ -14,10 +14,11 @@ use Rattle.rules.specs.declared.due.Due.TheVariants.{TellEnd as tell_end, Send a
 use Rattle.rules.specs.declared.kept.Begun.{Begun}
 use Rattle.rules.specs.declared.kept.Kept.{Kept}
 use Rattle.rules.specs.declared.kept.Turn.{Turn}
-use Rattle.rules.specs.Kept.{begun_of}
+use Rattle.rules.specs.Kept.{actor_count, begun_of}
+use Rattle.rules.specs.Work.{is_finished}
 use Rattle.rules.specs.Due.{due, kept_text}
 use Rattle.rules.specs.Rules.{is_turn_of, is_begun_at, same_event, same_answer, answer_code}
-use Rattle.rules.specs.Performed.{is_sent, is_end_told, is_refusal_told, is_published}
+use Rattle.rules.specs.Performed.{ends_turn, is_sent, is_end_told, is_refusal_told, is_published}
 use Rattle.performed.specs.Followed.{is_followed, follows, is_given_or_refused}
 
 pub bytes-same : (xs : List ℕ) → same_bytes xs xs ≡ true
@@ -32,7 +33,7 @@ event-same (world_event.Insert i) = eq-eqb i i refl
 pub answer-same : (a : Answer) → same_answer a a ≡ true
 answer-same a = bytes-same (answer_code a)
 
-both : (a b : Bool) → a ≡ true → b ≡ true → (a && b) ≡ true
+pub both : (a b : Bool) → a ≡ true → b ≡ true → (a && b) ≡ true
 both a b p q = rw (p, q) refl
 
 of_turn : (t : Turn) (a : ℕ) → t.actor ≡ Some a → is_turn_of a t ≡ true
@@ -73,7 +74,12 @@ refusal_follows s k f n turn h =
     subst (λ (x : Due). follows s k x (line.Refused f n) ≡ true) (sym h)
     (both _ _ (of_turn k.turn 0 turn) (both _ _ (eq-eqb f f refl) (eq-eqb n n refl)))
 
-pub published_follows : (s : Script) (k : Kept) (f : ℕ) (text : List ℕ) → due s k ≡ publish f → text ≡ kept_text f k → is_followed s k (line.Published (k.publications + 1) f k.history.epoch k.history.events text) ≡ true
-published_follows s k f text h t =
-    subst (λ (x : Due). follows s k x (line.Published (k.publications + 1) f k.history.epoch k.history.events text) ≡ true) (sym h)
-    (both _ _ (both _ _ (both _ _ (both _ _ (eq-eqb f f refl) (eq-eqb (k.publications + 1) (k.publications + 1) refl)) (eq-eqb k.history.epoch k.history.epoch refl)) (eq-eqb k.history.events k.history.events refl)) (subst (λ (x : List ℕ). same_bytes text x ≡ true) t (bytes-same text)))
+-- `kk` is the same as what is kept
+pub published_follows : (s : Script) (k kk : Kept) (f : ℕ) (text : List ℕ) → kk ≡ k → due s k ≡ publish f → text ≡ kept_text f k → is_followed s k (line.Published (kk.publications + 1) f kk.history.epoch kk.history.events text) ≡ true
+published_follows s k kk f text e h t =
+    subst (λ (z : Kept). is_followed s k (line.Published (z.publications + 1) f z.history.epoch z.history.events text) ≡ true) (sym e)
+    (subst (λ (x : Due). follows s k x (line.Published (k.publications + 1) f k.history.epoch k.history.events text) ≡ true) (sym h)
+    (both _ _ (both _ _ (both _ _ (both _ _ (eq-eqb f f refl) (eq-eqb (k.publications + 1) (k.publications + 1) refl)) (eq-eqb k.history.epoch k.history.epoch refl)) (eq-eqb k.history.events k.history.events refl)) (subst (λ (x : List ℕ). same_bytes text x ≡ true) t (bytes-same text))))
+
+pub mark_follows : (s : Script) (k : Kept) (a : ℕ) → ends_turn (due s k) ≡ true → is_finished s k ≡ false → a ≤ actor_count s → is_followed s k (line.Turn a) ≡ true
+mark_follows s k a e f h = both _ _ (both _ _ e (ap not f)) (le-leb a (actor_count s) h)

@@ -74,7 +74,7 @@ pub record HasLine (l : Line) (old new : Parts) : Type 0 where
   pub stays : StaysWith old new
   pub tied : IsTied new
   pub lines : new.lines.lines ≡ l ∷ old.lines.lines
-  pub spare : new.lines.spare + 1 ≡ old.lines.spare
+  pub spare : old.lines.spare ≤ new.lines.spare + 1
 
 -- one line more, which is no mark
 pub record HasOneMore (old new : Parts) : Type 0 where
@@ -122,6 +122,10 @@ pub record MayPublish (events f : ℕ) (ready : Option (List ℕ)) (p : Parts) :
   pub text : IfSome ready (λ t. t ≡ kept_text f p.kept)
   pub event : ready ≡ None → events < p.kept.history.events
   pub spare_bytes : most_of_text ready ≤ p.lines.spare_bytes
+
+-- the bytes that a text took were made ready for it, or there is room for a whole turn beside it
+abbrev pub LeavesRoom : ℕ → ℕ → ℕ → ℕ → Type 0
+LeavesRoom beside ready old new = (old + beside ≤ new + ready) ⊎ (59008 + beside ≤ new)
 
 -- the text is what was made ready before the turn while no event of the turn came; it is used once
 abbrev pub IsReady : ℕ → Script → Kept → Kept → Option (List ℕ) → Type 0

@@ -1,5 +1,5 @@
 // What callers have of a hub.
-ghost use Rattle.std.specs.Prelude.{◌≡◌, ◌≤◌, ◌∷◌, [], not, true, false, IsSome, IfSome, IsErr, IfOk, OnOk, OnErr};
+ghost use Rattle.std.specs.Prelude.{◌≡◌, ◌&&◌, ◌≤◌, ◌∷◌, [], not, true, false, IsSome, IfSome, IsErr, IfOk, OnOk, OnErr};
 ghost use Rattle.script_reader.specs.Rules.{keeps_rules};
 ghost use Rattle.script_reader.specs.World.{first_world};
 ghost use Rattle.report.specs.declared.line.Line.TheVariants as line;
@@ -15,6 +15,7 @@ use crate::engine::Engine;
 use crate::turn::Turn;
 use apdu::Memory;
 use card_model::ScriptedSlot;
+use performed::finished_runs_are_legal;
 use report::{Mode, Report, ReservedLines};
 use script::Script;
 use std::alloc::Global;
@@ -51,6 +52,7 @@ impl<S: ScriptedSlot> Model for Hub<S> {
 
 impl<S: ScriptedSlot + Drop> Hub<S> {
     /// A hub with no lines, over an empty slot with the script's cards.
+    #[tactic(auto, using(crate::proofs::Scripts::few_actors))]
     pub fn new(alloc: Global, slot: S, script: Script) -> Result<Hub<S>, Memory>
         requires rules { keeps_rules script ≡ true }
         requires served { serves script ≡ true }
@@ -84,12 +86,12 @@ impl<S: ScriptedSlot + Drop> Hub<S> {
         &self.engine.script
     }
 
-    /// Whether the run is not finished.
+    /// Whether the run is not finished. A run that broke off is.
     pub fn pending(&self) -> bool
-        ensures { self.now.whole ≡ true
-            → result ≡ not (is_run_finished self.now.script (kept_now self.now)) }
+        ensures { result ≡ (self.now.whole
+            && not (is_run_finished self.now.script (kept_now self.now))) }
     {
-        self.engine.pending()
+        self.whole && self.engine.pending()
     }
 
     /// How many events there were.
@@ -174,6 +176,7 @@ impl<S: ScriptedSlot + Drop> Hub<S> {
         if !whole {
             return Err(Memory);
         }
+        finished_runs_are_legal();
         let Engine {
             alloc: _,
             slot: _,

@@ -1,7 +1,8 @@
 // The lines of a turn behind its mark: one function for each kind of line that may be due.
-ghost use Rattle.std.specs.Prelude.{◌≡◌, ◌==◌, ◌≤◌, ◌<◌, ◌+◌, min, length, true, false, is_some, None, IfSome, IfOk, OnOk, OnErr};
+ghost use Rattle.std.specs.Prelude.{◌≡◌, ◌==◌, ◌≤◌, ◌<◌, ◌+◌, length, true, false, is_some, None, IfSome, IfOk, OnOk, OnErr};
 ghost use Rattle.apdu.specs.Words.{has_value};
-ghost use Rattle.card_model.specs.Slot.{acted_of, fault_at};
+ghost use Rattle.std.specs.Option.{option_copied};
+ghost use Rattle.card_model.specs.Slot as slots;
 ghost use Rattle.report.specs.Room.{most_of_answer};
 ghost use Rattle.report.specs.declared.line.Line.TheVariants as line;
 ghost use Rattle.families.specs.Contents.{family_count};
@@ -14,7 +15,7 @@ ghost use Rattle.performed.specs.Followed.{is_given_or_refused, is_slot_answer};
 ghost use Rattle.performed.specs.Told.{is_refusal_told};
 ghost use Rattle.hub.specs.Parts.{parts};
 ghost use Rattle.hub.specs.Performing.{is_performed};
-ghost use Rattle.hub.specs.Settled.{BreaksBehind, HasOneMore, IsUnderWay, KeepsAll, MayPublish, most_of_text};
+ghost use Rattle.hub.specs.Settled.{BreaksBehind, HasOneMore, IsUnderWay, KeepsAll, LeavesRoom, MayPublish, most_of_text};
 
 use crate::engine::{Engine, NoPlans};
 use crate::publish::text_of;
@@ -37,11 +38,18 @@ fn is_at(call: u64, fault: &Fault) -> bool
     fault.at as u64 == call
 }
 
+/// The fault of the call of this number, where one is planned.
+fn fault_at(script: &Script, call: u64) -> Option<&Fault>
+    ensures { option_copied result ≡ slots.fault_at call script.now.faults }
+{
+    script.faults.as_slice().iter().find(|fault| is_at(call, fault))
+}
+
 /// Whether the card acted where the call of this number failed.
 fn acted_at(script: &Script, call: u64) -> bool
-    ensures { result ≡ acted_of (fault_at call script.now.faults) }
+    ensures { result ≡ slots.acted_of (slots.fault_at call script.now.faults) }
 {
-    match script.faults.as_slice().iter().find(|fault| is_at(call, fault)) {
+    match fault_at(script, call) {
         None => false,
         Some(fault) => fault.acted,
     }
@@ -104,7 +112,8 @@ impl<S: ScriptedSlot> Engine<S> {
                     response,
                 };
                 self.lines.push_within(&line);
-                self.tracker.exchange(&self.script, &line)
+                self.tracker.exchange(&self.script, &line)?;
+                Ok(())
             }
             Err(_) => {
                 let call = self.tracker.kept().history.calls + 1;
@@ -257,8 +266,8 @@ impl<S: ScriptedSlot> Engine<S> {
             (parts S.Slot.world S.Slot.plan self.new) }
         ensures text { IfOk result (λ t. t ≡ kept_text family self.old.tracker) }
         ensures room { IfOk result (λ t. 32 + length t ≤ self.new.lines.spare_bytes) }
-        ensures spare_bytes { IfOk result (λ t. min self.old.lines.spare_bytes 59008 + 32 + length t
-            ≤ self.new.lines.spare_bytes + most_of_text ready) }
+        ensures spare_bytes { IfOk result (λ t. LeavesRoom (32 + length t) (most_of_text ready)
+            self.old.lines.spare_bytes self.new.lines.spare_bytes) }
         ensures err { OnErr result (ready ≡ None) }
     {
         match ready {
@@ -279,8 +288,9 @@ impl<S: ScriptedSlot> Engine<S> {
         requires may { MayPublish from family ready (parts S.Slot.world S.Slot.plan self.old) }
         ensures line { OnOk result (HasOneMore (parts S.Slot.world S.Slot.plan self.old)
             (parts S.Slot.world S.Slot.plan self.new)) }
-        ensures spare_bytes { OnOk result (min self.old.lines.spare_bytes 59008
-            ≤ self.new.lines.spare_bytes + most_of_text ready) }
+        ensures spare_bytes { OnOk result (LeavesRoom 0 (most_of_text ready)
+            self.old.lines.spare_bytes self.new.lines.spare_bytes) }
+        ensures published { OnOk result (is_some self.new.tracker.turn.published ≡ true) }
         ensures err { OnErr result (BreaksBehind from
             (parts S.Slot.world S.Slot.plan self.old) (parts S.Slot.world S.Slot.plan self.new)) }
     {

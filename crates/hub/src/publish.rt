@@ -41,7 +41,7 @@ fn taken<'a>(ids: &[u16], files: &'a CachedFiles) -> Option<&'a CachedFile>
 impl FileView for Current<'_> {
     ghost use Rattle.epoch_cache.specs.Places.{content_taken};
 
-    ghost content = { λ v path. content_taken path v.files };
+    ghost content = { λ v path. content_taken path v.files.now };
 
     fn rows(&self, path: &Path) -> Option<&Rows> {
         match taken(path.ids(), self.files) {

@@ -3,7 +3,8 @@ ghost use Rattle.std.specs.Prelude.{◌≡◌, ◌≤◌, ◌<◌, ◌+◌, ◌^
 ghost use Rattle.report.specs.declared.line.Line.TheVariants as line;
 ghost use Rattle.script_reader.specs.Rules.{keeps_rules};
 ghost use Rattle.planner.specs.Room.{turn_fits, turn_is_decided};
-ghost use Rattle.rules.specs.After.{decision_at};
+ghost use Rattle.rules.specs.After.{decision_at, kept_after};
+ghost use Rattle.tracker.specs.Room.{HasRoom};
 ghost use Rattle.rules.specs.Due as rules;
 ghost use Rattle.rules.specs.Kept.{actor_count};
 ghost use Rattle.rules.specs.Performed as performed;
@@ -131,6 +132,23 @@ impl<S: ScriptedSlot> Engine<S> {
         }
     }
 
+    /// The mark of a turn of the actor, as it is kept.
+    #[tactic(auto, using(crate::proofs::Scripts::few_actors, crate::proofs::Turning::has_room))]
+    fn keep_mark(&mut self, actor: u8)
+        requires tied { IsTied (parts S.Slot.world S.Slot.plan self.old) }
+        requires room { HasRoom self.old.tracker }
+        ensures { self.new ≡ record self.old {
+          tracker = kept_after self.old.script (line.Turn actor) self.old.tracker;
+        } }
+    {
+        if actor == 0 {
+            self.tracker.turn_of_framework(&self.script);
+        } else {
+            let decision = self.decision(actor);
+            self.tracker.turn_of_actor(&self.script, actor, decision);
+        }
+    }
+
     /// The mark of a turn of the actor.
     pub fn mark(&mut self, actor: u8)
         requires settled { IsSettled (parts S.Slot.world S.Slot.plan self.old) }
@@ -142,17 +160,15 @@ impl<S: ScriptedSlot> Engine<S> {
         ensures line { HasLine (line.Turn actor) (parts S.Slot.world S.Slot.plan self.old)
             (parts S.Slot.world S.Slot.plan self.new) }
         ensures spare_bytes { self.old.lines.spare_bytes ≤ self.new.lines.spare_bytes + 32 }
+        ensures slot { self.new.slot ≡ self.old.slot }
+        ensures script { self.new.script ≡ self.old.script }
     {
-        if actor == 0 {
-            self.tracker.turn_of_framework(&self.script);
-        } else {
-            let decision = self.decision(actor);
-            self.tracker.turn_of_actor(&self.script, actor, decision);
-        }
+        self.keep_mark(actor);
         self.lines.push_within(&Line::Turn { actor });
     }
 
     /// The line that is due.
+    #[tactic(auto, using(crate::proofs::Scripts::few_actors))]
     fn next(&self) -> Due
         requires rules { keeps_rules self.now.script ≡ true }
         requires fits { turn_fits self.now.tracker.turn.actor self.now.tracker.jobs ≡ true }

@@ -1,36 +1,36 @@
-mod TurnsSays
-mod TurnsJobs
-mod Plain
-mod TurnsKept
-mod TurnsStale
-mod TurnsPhase
-mod TurnsLoad
-mod TurnsMove
-mod LegalWorld
-mod LegalDue
-mod LegalScript
-mod LegalResets
-mod LegalLooks
-mod LegalLines
-mod LegalPlaces
-mod Legal
-mod ProgressActors
-mod ProgressJobs
-mod ProgressMarks
-mod ProgressServed
-mod ProgressSomebody
-mod ProgressBegins
-mod ProgressSound
-mod ProgressGoes
-mod ProgressMoves
-mod Counts
-mod MeasureSays
-mod MeasureShape
-mod MeasureBegun
-mod MeasureNumbers
-mod Measure
-mod CalmLent
-mod CalmSends
-mod CalmArmed
-mod CalmCards
-mod CalmRest
+pub mod TurnsSays
+pub mod TurnsJobs
+pub mod Plain
+pub mod TurnsKept
+pub mod TurnsStale
+pub mod TurnsPhase
+pub mod TurnsLoad
+pub mod TurnsMove
+pub mod LegalWorld
+pub mod LegalDue
+pub mod LegalScript
+pub mod LegalResets
+pub mod LegalLooks
+pub mod LegalLines
+pub mod LegalPlaces
+pub mod Legal
+pub mod ProgressActors
+pub mod ProgressJobs
+pub mod ProgressMarks
+pub mod ProgressServed
+pub mod ProgressSomebody
+pub mod ProgressBegins
+pub mod ProgressSound
+pub mod ProgressGoes
+pub mod ProgressMoves
+pub mod Counts
+pub mod MeasureSays
+pub mod MeasureShape
+pub mod MeasureBegun
+pub mod MeasureNumbers
+pub mod Measure
+pub mod CalmLent
+pub mod CalmSends
+pub mod CalmArmed
+pub mod CalmCards
+pub mod CalmRest
