@@ -10,3 +10,7 @@ pub mod Tries
 pub mod Turning
 pub mod Premises
 pub mod DueSoFar
+pub mod Idle
+pub mod Calm
+pub mod Steps
+pub mod Taken

@@ -103,7 +103,7 @@ below f h = elim (one_of_three (0 == f) (1 == f) (2 == f) h) [
   ]
 ]
 
-known_some : (o : Option ℕ) (f : ℕ) → is_family_or_none o ≡ true → o ≡ Some f → f < family_count
+pub known_some : (o : Option ℕ) (f : ℕ) → is_family_or_none o ≡ true → o ≡ Some f → f < family_count
 known_some None f h e = absurd (cc)
 known_some (Some g) f h e = let same : g ≡ f = cc in subst (λ n. n < family_count) same (below g h)
 

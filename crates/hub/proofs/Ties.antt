@@ -9,7 +9,8 @@ use Rattle.report.specs.Room.{LinesRoom}
 use Rattle.report.specs.declared.line.Line.{Line}
 use Rattle.rules.specs.declared.kept.Kept.{Kept}
 use Rattle.rules.specs.History.{is_call, is_event}
-use Rattle.rules.specs.Due.{due, kept_text}
+use Rattle.rules.specs.Due.{due}
+use Rattle.rules.specs.declared.due.Due.{Due}
 use Rattle.rules.specs.After.{is_mark, kept_after, kept_of}
 use Rattle.rules.specs.State.{world_after, world_of}
 use Rattle.performed.specs.Followed.{are_followed, is_followed}
@@ -143,7 +144,5 @@ one_more_kept p r q h m =
 pub plan_now : (p : Parts) → IsTied p → IfSome p.plan (IsPlanOf p.script p.kept)
 plan_now p t = subst (λ (k : Kept). IfSome p.plan (IsPlanOf p.script k)) (sym t.kept) t.lines.plan
 
--- ---- where the slot's refusal changed nothing
-
-pub with_slot : Parts → Option World → Option Plan → Parts
-with_slot p v q = record p { world = v; plan = q }
+pub due_kept : (p q : Parts) (d : Due) → KeepsAll p q → due p.script p.kept ≡ d → due q.script q.kept ≡ d
+due_kept p q d h e = ap (λ (s : Script). due s q.kept) h.script ∙ ap (due p.script) h.kept ∙ e

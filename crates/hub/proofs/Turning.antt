@@ -114,7 +114,7 @@ line_actor s (line.EpochEnd n e v) k m = refl
 line_actor s (line.Refused f n) k m = refl
 line_actor s (line.Answered a i given) k m = refl
 
-unmarked : (b : Bool) → not b ≡ true → b ≡ false
+pub unmarked : (b : Bool) → not b ≡ true → b ≡ false
 unmarked true h = absurd (true≢false (sym h))
 unmarked false h = refl
 
@@ -167,7 +167,7 @@ published_stays s (line.Refused f n) k m h = h
 published_stays s (line.Answered a i given) k m h = h
 
 -- what was made ready stays so while no event comes
-pub unless : ℕ → ℕ → Option (List ℕ) → Option (List ℕ)
+abbrev pub unless : ℕ → ℕ → Option (List ℕ) → Option (List ℕ)
 unless before now text = if nat_lt before now then None else text
 
 module _ (a : ℕ) (s : Script) (before k : Kept) (l : Line) (own : is_mark l ≡ false) where
@@ -176,7 +176,7 @@ module _ (a : ℕ) (s : Script) (before k : Kept) (l : Line) (own : is_mark l �
   none_on (inr (inl moved)) = let e = (goes_on s l k).events in inr (inl (omega arith))
   none_on (inr (inr published)) = inr (inr (published_stays s l k own published))
 
-  ready_by : (text : Option (List ℕ)) (b : Bool) → nat_lt before.history.events (kept_after s l k).history.events ≡ b → IsReady a s before k text → IsReady a s before (kept_after s l k) (if b then None else text)
+  pub ready_by : (text : Option (List ℕ)) (b : Bool) → nat_lt before.history.events (kept_after s l k).history.events ≡ b → IsReady a s before k text → IsReady a s before (kept_after s l k) (if b then None else text)
   ready_by text true e h = inr (inl (ltb-true before.history.events (kept_after s l k).history.events e))
   ready_by None false e h = none_on h
   ready_by (Some text) false e h = let g = (goes_on s l k).events in let n = ltb-false before.history.events (kept_after s l k).history.events e in let same = h.0 in (omega arith, h.1)
