@@ -8,7 +8,6 @@ pub mod Refusals
 pub mod Gives
 pub mod Tries
 pub mod Turning
-pub mod Premises
 pub mod DueSoFar
 pub mod Idle
 pub mod Calm
