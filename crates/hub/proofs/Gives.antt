@@ -1,5 +1,5 @@
 -- The answer that is due: to an operation that has begun, and of few bytes.
-use Rattle.std.proofs.Common.{◌≡◌, ◌≤◌, ◌+◌, ℕ, zero, suc, Bool, true, false, if◌then◌else◌, List, [], ◌∷◌, Option, Some, None, is_some, option_map, refl, sym, ap, ◌∙◌, subst, true≢false, lit≤}
+use Rattle.std.proofs.Common.{◌≡◌, ◌≤◌, ℕ, Bool, true, false, if◌then◌else◌, Option, Some, None, is_some, option_map, refl, sym, subst, true≢false, lit≤}
 use Rattle.apdu.specs.Values.{CommandValue}
 use Rattle.apdu.specs.Words.{or_else}
 use Rattle.card_model.specs.declared.world.WorldEvent.{WorldEvent}

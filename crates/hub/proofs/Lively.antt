@@ -1,7 +1,7 @@
 -- A command is due only while an epoch lives, and then there is a card in the slot.
-use Rattle.std.proofs.Common.{◌≡◌, ℕ, zero, suc, ◌&&◌, ◌||◌, ◌==◌, not, Bool, true, false, if◌then◌else◌, List, [], ◌∷◌, Option, Some, None, is_some, IfSome, refl, sym, ap, ◌∙◌, subst, true≢false}
+use Rattle.std.proofs.Common.{◌≡◌, ℕ, zero, suc, ◌==◌, Bool, true, false, if◌then◌else◌, List, [], ◌∷◌, Option, Some, None, is_some, IfSome, refl, sym, ap, ◌∙◌, true≢false}
 use Rattle.std.proofs.lemmas.Bool.{and_parts}
-use Rattle.apdu.specs.Values.{CommandValue, ResponseValue}
+use Rattle.apdu.specs.Values.{CommandValue}
 use Rattle.card_model.specs.Step.{card_inside}
 use Rattle.families.specs.Families.{family_paths}
 use Rattle.script_reader.specs.declared.types.Script.{Script}
@@ -10,24 +10,21 @@ use Rattle.script_reader.specs.declared.types.Operation.TheVariants as operation
 use Rattle.report.specs.declared.line.Line.{Line}
 use Rattle.report.specs.declared.line.Line.TheVariants as line
 use Rattle.link.specs.declared.chain.Chain.{Chain}
-use Rattle.epoch_cache.specs.Cache.{first_missing}
 use Rattle.epoch_cache.specs.declared.past.Past.{Past}
 use Rattle.rules.specs.declared.due.Due.{Due}
 use Rattle.rules.specs.declared.due.Due.TheVariants.{Send as send}
 use Rattle.rules.specs.declared.kept.Begun.{Begun}
-use Rattle.rules.specs.declared.kept.Facts.{Facts}
 use Rattle.rules.specs.declared.kept.Job.{Job}
 use Rattle.rules.specs.declared.kept.Kept.{Kept}
 use Rattle.rules.specs.declared.kept.Stage.{Stage}
 use Rattle.rules.specs.declared.kept.Stage.TheVariants.{Fresh as fresh, Next as next, Resetting as resetting, Over as over}
-use Rattle.rules.specs.declared.kept.Turn.{Turn}
 use Rattle.rules.specs.declared.kept.Work.{Work}
 use Rattle.rules.specs.declared.kept.Work.TheVariants.{Rests as rests, Refuses as refuses, Lacks as lacks, Sends as sends, Reads as reads, Writes as writes, Resets as resets, Happens as happens}
 use Rattle.rules.specs.Kept.{begun_of, job_of, operation_at, operation_now}
-use Rattle.rules.specs.History.{lives_in, history_after}
-use Rattle.rules.specs.Work.{first_item, framework_work, reads_first, work_of_operation}
+use Rattle.rules.specs.History.{lives_in}
+use Rattle.rules.specs.Work.{first_item, reads_first, work_of_operation}
 use Rattle.rules.specs.After.{decision_at, decision_of_begun, fresh_begun, kept_after, kept_of}
-use Rattle.rules.specs.Due.{due, due_command, command_by_chain, command_by_stage, first_command, first_of_turn}
+use Rattle.rules.specs.Due.{due, command_by_chain, command_by_stage, first_command, first_of_turn}
 use Rattle.rules.specs.State.{world_of}
 use Rattle.rules.specs.Performed.{is_sent}
 use Rattle.rules.specs.Rules.{is_turn_of}

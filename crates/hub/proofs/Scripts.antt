@@ -1,5 +1,5 @@
 -- What the rules of a script, and that it is served, say of it.
-use Rattle.std.proofs.Common.{◌≡◌, ◌≤◌, ◌<◌, ◌&&◌, ◌||◌, ◌⊎◌, inl, inr, eqb-true, ◌==◌, ℕ, zero, suc, Bool, true, false, nat_le, List, [], ◌∷◌, length, Option, Some, None, if◌then◌else◌, refl, sym, ap, subst, ◌∙◌, arith, leb-true, true≢false, lit<}
+use Rattle.std.proofs.Common.{◌≡◌, ◌≤◌, ◌<◌, ◌&&◌, ◌||◌, ◌⊎◌, inl, inr, eqb-true, ◌==◌, ℕ, zero, suc, Bool, true, false, nat_le, List, ◌∷◌, length, Option, Some, None, if◌then◌else◌, refl, sym, subst, arith, leb-true, true≢false}
 use Rattle.std.specs.List.{list_all}
 use Rattle.std.specs.Prelude.{option_and_then}
 use Rattle.std.proofs.lemmas.Bool.{and_parts}
@@ -13,20 +13,17 @@ use Rattle.script_reader.specs.Operations.{operation_count, is_actor}
 use Rattle.script_reader.specs.Rules.{keeps_rules, cards_keep_rules, changes_keep_rules, actors_keep_rules, schedule_keeps_rules, faults_keep_rules, budget_keeps_rules}
 use Rattle.report.specs.declared.line.Line.{Line}
 use Rattle.report.specs.declared.line.Line.TheVariants as line
-use Rattle.rules.specs.declared.due.Due.TheVariants.{Publish as publish}
 use Rattle.rules.specs.declared.kept.Begun.{Begun}
 use Rattle.rules.specs.declared.kept.Job.{Job}
 use Rattle.rules.specs.declared.kept.Kept.{Kept}
 use Rattle.rules.specs.Kept.{begun_of, job_of, operation_at, operation_now}
-use Rattle.rules.specs.After.{family_at, kept_of}
-use Rattle.rules.specs.Due.{due, published_by}
+use Rattle.rules.specs.After.{kept_of}
 use Rattle.epoch_cache.specs.Cache.{all_current}
 use Rattle.families.specs.Families.{family_paths}
-use Rattle.performed.proofs.TurnsSays.{says_of}
 use Rattle.tracker.specs.Held.{may_hold}
 use Rattle.tracker.specs.Room.{operation_fits}
 use Rattle.planner.specs.Room.{is_edit}
-use Rattle.performed.specs.Served.{is_served, serves}
+use Rattle.performed.specs.Served.{serves}
 use Rattle.performed.proofs.CalmSends.{ServedOp, served_at, served_now}
 use Rattle.performed.proofs.LegalScript.{family_known, is_family_or_none}
 use Rattle.hub.specs.Ready.{family_by, family_next, family_ready, if_current}

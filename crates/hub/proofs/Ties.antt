@@ -1,5 +1,5 @@
 -- One line more, in the parts of a hub.
-use Rattle.std.proofs.Common.{◌≡◌, ◌≤◌, ◌<◌, ◌&&◌, ◌+◌, arith, ℕ, Bool, true, false, List, [], ◌∷◌, Option, Some, None, IfSome, is_some, refl, sym, ap, ◌∙◌, subst}
+use Rattle.std.proofs.Common.{◌≡◌, ◌<◌, ◌+◌, arith, Bool, true, false, List, [], ◌∷◌, Option, Some, None, IfSome, refl, sym, ap, ◌∙◌, subst}
 use Rattle.std.proofs.lemmas.Bool.{false≢true}
 use Rattle.card_model.specs.declared.world.World.{World}
 use Rattle.card_model.specs.Slot.{Plan, StaysTold}
@@ -12,9 +12,9 @@ use Rattle.rules.specs.History.{is_call, is_event}
 use Rattle.rules.specs.Due.{due}
 use Rattle.rules.specs.declared.due.Due.{Due}
 use Rattle.rules.specs.After.{is_mark, kept_after, kept_of}
-use Rattle.rules.specs.State.{world_after, world_of}
-use Rattle.performed.specs.Followed.{are_followed, is_followed}
-use Rattle.performed.specs.Told.{are_told, is_told}
+use Rattle.rules.specs.State.{world_after}
+use Rattle.performed.specs.Followed.{is_followed}
+use Rattle.performed.specs.Told.{is_told}
 use Rattle.hub.specs.Parts.{Parts}
 use Rattle.hub.specs.Settled.{AreServed, BreaksBehind, HasLine, HasOneMore, KeepsAll, IsPlanOf, IsTied, IsWorldOf}
 

@@ -1,5 +1,5 @@
 -- An event that is due is an insertion of one of the script's cards, for an operation that has begun.
-use Rattle.std.proofs.Common.{◌≡◌, ◌≤◌, ◌&&◌, ◌||◌, ◌+◌, ◌==◌, ℕ, zero, suc, not, Bool, true, false, if◌then◌else◌, nat_lt, nat_le, List, [], ◌∷◌, length, map, slice_get, slice_set, unwrap_or, Option, Some, None, IfSome, is_some, is_none, Result, Ok, Err, option_map, refl, sym, ap, ◌∙◌, subst, true≢false, arith, eq-eqb}
+use Rattle.std.proofs.Common.{◌≡◌, ◌≤◌, ◌&&◌, ◌==◌, ℕ, zero, suc, Bool, true, false, if◌then◌else◌, nat_lt, nat_le, List, [], ◌∷◌, length, slice_get, slice_set, unwrap_or, Option, Some, None, IfSome, is_some, Err, option_map, refl, sym, ap, ◌∙◌, subst, true≢false, arith, eq-eqb}
 use Rattle.std.specs.Prelude.{option_and_then}
 use Rattle.std.specs.List.{list_all}
 use Rattle.std.proofs.lemmas.List.{length-map}

@@ -1,38 +1,30 @@
 -- A turn under way: what its next line may ask for, and what it leaves.
-use Rattle.std.proofs.Common.{◌≡◌, ◌≤◌, ◌<◌, ◌&&◌, ◌+◌, ◌*◌, ◌^◌, ◌==◌, ◌++◌, ◌⊎◌, inl, inr, ℕ, zero, suc, not, Bool, true, false, nat_lt, if◌then◌else◌, List, [], ◌∷◌, length, slice_get, unwrap_or, Option, Some, None, is_some, is_none, option_map, refl, sym, ap, ◌∙◌, subst, true≢false, arith, lt-ltb, ltb-true, ltb-false, append_assoc}
+use Rattle.std.proofs.Common.{◌≡◌, ◌≤◌, ◌<◌, ◌+◌, ◌^◌, ◌++◌, inl, inr, ℕ, zero, suc, not, Bool, true, false, nat_lt, if◌then◌else◌, List, [], ◌∷◌, length, Option, Some, None, is_some, refl, sym, ap, ◌∙◌, subst, true≢false, arith, lt-ltb, ltb-true, ltb-false}
 use Rattle.std.specs.List.{list_all}
 use Rattle.std.proofs.lemmas.Bool.{and_parts}
 use Rattle.script_reader.specs.declared.types.Script.{Script}
-use Rattle.script_reader.specs.Rules.{keeps_rules}
 use Rattle.script_reader.specs.declared.types.Operation.{Operation}
 use Rattle.report.specs.declared.line.Line.{Line}
 use Rattle.report.specs.declared.line.Line.TheVariants as line
 use Rattle.link.specs.declared.chain.Final.{Final}
-use Rattle.editor.specs.Editing.{no_editing}
 use Rattle.loader.specs.declared.reading.RefusedReading.{RefusedReading}
 use Rattle.rules.specs.declared.kept.Begun.{Begun}
 use Rattle.rules.specs.declared.kept.Facts.{Facts}
 use Rattle.rules.specs.declared.kept.Job.{Job}
 use Rattle.rules.specs.declared.kept.Kept.{Kept}
 use Rattle.rules.specs.declared.kept.Turn.{Turn}
-use Rattle.rules.specs.Kept.{begun_of, first_job, job_of}
+use Rattle.rules.specs.Kept.{begun_of}
 use Rattle.rules.specs.After.{facts_of, is_mark, kept_after, kept_of, turn_exchanged}
-use Rattle.rules.specs.Due.{due, kept_text}
+use Rattle.rules.specs.Due.{due}
 use Rattle.rules.specs.Performed.{ends_turn}
 use Rattle.planner.specs.Room.{begun_fits as updates_fit, is_decided, turn_fits, turn_is_decided, handles_fit}
-use Rattle.tracker.specs.Room.{CountsOn, HasRoom, begun_has_room, job_has_room, mailbox_has_room}
-use Rattle.performed.specs.Served.{serves}
-use Rattle.performed.specs.Followed.{are_followed, is_followed}
+use Rattle.tracker.specs.Room.{CountsOn, HasRoom, begun_has_room, job_has_room}
 use Rattle.performed.specs.Laws.{AreCounted, ArePlainJobs, IsPlain, IsPlainJob, has_no_edit, has_no_mark}
-use Rattle.performed.specs.Measure.{is_begun, one_if, steps_left}
 use Rattle.performed.proofs.Counts.{counts}
-use Rattle.performed.proofs.Measure.{turns_end}
 use Rattle.performed.proofs.Plain.{stays_plain}
 use Rattle.performed.proofs.TurnsKept.{goes_on}
-use Rattle.hub.specs.Hub.{AddsTurn}
 use Rattle.hub.specs.Parts.{Parts}
-use Rattle.hub.specs.Ready.{family_ready}
-use Rattle.hub.specs.Settled.{BreaksBehind, HasBroken, HasLine, HasOneMore, HasTurned, IsPrepared, IsReady, IsSettled, IsTied, IsTurning, IsUnderWay, most_of_text}
+use Rattle.hub.specs.Settled.{IsReady, IsSettled, IsTied, IsTurning, IsUnderWay, most_of_text}
 
 -- ---- plain jobs
 

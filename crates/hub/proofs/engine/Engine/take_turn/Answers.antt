@@ -1,5 +1,5 @@
-use Rattle.std.proofs.Common.{◌∙◌, sym, refl, ap, arith}
-use Rattle.hub.proofs.Steps.{always_err, awake_pending, broken, first_turning, from_start, may_publish, next_turning, other_performed, published_turning, since, stays_then, steps_fall}
+use Rattle.std.proofs.Common.{◌∙◌, sym, ap, arith}
+use Rattle.hub.proofs.Steps.{always_err, awake_pending, broken, from_start, may_publish, next_turning, other_performed, published_turning, since, stays_then, steps_fall}
 use Rattle.hub.proofs.Turning.{under_way}
 use Rattle.hub.proofs.engine.Engine.take_turn.Goals as goal
 
