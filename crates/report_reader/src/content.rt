@@ -1,0 +1,73 @@
+// What is shown of a family: compact JSON whose numbers are whole and have 64 bits at most.
+ghost use Rattle.std.specs.Prelude.{◌≡◌};
+ghost use Rattle.serde_json.specs.View.{view, items_view, members_view};
+ghost use Rattle.report_reader.specs.Reads.{ReadsAs};
+ghost use Rattle.report_reader.specs.Content as spec;
+
+use crate::error::{LineError, check};
+use apdu::Text;
+use serde_json::{Map, Value};
+use std::alloc::Global;
+
+/// Whether each number in it is whole.
+#[cycle(is_whole)]
+fn is_whole(value: &Value) -> bool
+    ensures { result ≡ spec.is_whole (view value.now) }
+{
+    match value {
+        Value::Null | Value::Bool(_) | Value::String(_) => true,
+        Value::Number(number) => number.is_u64(),
+        Value::Array(items) => are_items_whole(items),
+        Value::Object(members) => are_members_whole(members),
+    }
+}
+
+#[cycle(is_whole)]
+fn are_items_whole(items: &Vec<Value>) -> bool
+    ensures { result ≡ spec.are_items_whole (items_view items.now.items) }
+{
+    for item in items {
+        if !is_whole(item) {
+            return false;
+        }
+    }
+    true
+}
+
+#[cycle(is_whole)]
+fn are_members_whole(members: &Map<String, Value>) -> bool
+    ensures { result ≡ spec.are_members_whole (members_view members.now.entries) }
+{
+    for (_, member) in members.iter() {
+        if !is_whole(member) {
+            return false;
+        }
+    }
+    true
+}
+
+/// The value's one text, if these bytes are it.
+fn text_of(alloc: Global, bytes: &[u8], value: &Value) -> Result<Text, LineError>
+    ensures { ReadsAs (spec.text_of bytes.now (view value.now)) result }
+{
+    check(is_whole(value))?;
+    let text = value.to_string(alloc)?;
+    check(text.as_bytes() == bytes)?;
+    Ok(Text::from_string(text))
+}
+
+/// The text, if it is JSON and is written as it stands.
+pub(crate) fn content(alloc: Global, bytes: &[u8]) -> Result<Text, LineError>
+    ensures { ReadsAs (spec.content bytes.now) result }
+{
+    match Value::from_slice(alloc, bytes) {
+        Ok(value) => text_of(alloc, bytes, &value),
+        Err(error) => {
+            if error.is_memory() {
+                Err(LineError::Memory)
+            } else {
+                Err(LineError::NoPlace)
+            }
+        }
+    }
+}
