@@ -40,6 +40,12 @@ AnswersAs read (Ok value) = read ≡ Ok value
 AnswersAs read (Err (report.Refused number)) = read ≡ Err number
 AnswersAs read (Err report.Memory) = Unit {0}
 
+-- of what is changed by it
+abbrev pub ChangesTo : {T : Type 0} → Result T ℕ → T → Result (Unit {0}) ReportError → Type 0
+ChangesTo read new (Ok done) = read ≡ Ok new
+ChangesTo read new (Err (report.Refused number)) = read ≡ Err number
+ChangesTo read new (Err report.Memory) = Unit {0}
+
 -- the error of the line of this number
 abbrev pub at_line : ℕ → LineError → ReportError
 at_line number line.NoPlace = report.Refused number

@@ -37,6 +37,12 @@ mode_line line =
 abbrev pub read_line : Script → ℕ → List ℕ → Result Line ℕ
 read_line s number text = placed number (line_of s text)
 
+-- the lines with the one of this text, the newest first
+abbrev pub with_line : Script → ℕ → List ℕ → List Line → Result (List Line) ℕ
+with_line s number text earlier = do
+  line ← read_line s number text
+  Ok (line ∷ earlier)
+
 -- behind the last line feed stands nothing
 abbrev pub ended : List Line → ℕ → List (List ℕ) → Result (List Line) ℕ
 ended lines number [] = Err number
@@ -50,7 +56,7 @@ lines_from s number earlier [] = Err number
 lines_from s number earlier (text ∷ parts) =
     if is_empty parts then Err number
     else if same_bytes text (codes "end") then ended earlier (number + 1) parts
-    else (read_line s number text >>= λ line. lines_from s (number + 1) (line ∷ earlier) parts)
+    else (with_line s number text earlier >>= λ lines. lines_from s (number + 1) lines parts)
 
 -- ---- the report
 

@@ -295,6 +295,7 @@ fn notices(fields: &[&[u8]]) -> Result<Answer, LineError>
     Ok(Answer::Notices { dropped, numbers })
 }
 
+#[tactic(auto, using(crate::proofs::Counts::many_words))]
 fn of_words(
     alloc: Global,
     ends: bool,

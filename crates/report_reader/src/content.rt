@@ -1,11 +1,12 @@
 // What is shown of a family: compact JSON whose numbers are whole and have 64 bits at most.
-ghost use Rattle.std.specs.Prelude.{◌≡◌};
+ghost use Rattle.std.specs.Prelude.{◌≡◌, true, IfOk};
 ghost use Rattle.serde_json.specs.View.{view, items_view, members_view};
+ghost use Rattle.serde_json.specs.Written.{compact_text};
 ghost use Rattle.report_reader.specs.Reads.{ReadsAs};
 ghost use Rattle.report_reader.specs.Content as spec;
 
 use crate::error::{LineError, check};
-use apdu::Text;
+use apdu::{Memory, Text};
 use serde_json::{Map, Value};
 use std::alloc::Global;
 
@@ -46,17 +47,29 @@ fn are_members_whole(members: &Map<String, Value>) -> bool
     true
 }
 
+/// The value's one text.
+#[tactic(auto, using(crate::proofs::Contents::no_float))]
+fn compact(alloc: Global, value: &Value) -> Result<Text, Memory>
+    requires { spec.is_whole (view value.now) ≡ true }
+    ensures { IfOk result (λ text. text ≡ compact_text (view value.now)) }
+{
+    Ok(Text::from_string(value.to_string(alloc)?))
+}
+
 /// The value's one text, if these bytes are it.
 fn text_of(alloc: Global, bytes: &[u8], value: &Value) -> Result<Text, LineError>
     ensures { ReadsAs (spec.text_of bytes.now (view value.now)) result }
 {
-    check(is_whole(value))?;
-    let text = value.to_string(alloc)?;
-    check(text.as_bytes() == bytes)?;
-    Ok(Text::from_string(text))
+    if !is_whole(value) {
+        return Err(LineError::NoPlace);
+    }
+    let text = compact(alloc, value)?;
+    check(text.as_str().as_bytes() == bytes)?;
+    Ok(text)
 }
 
 /// The text, if it is JSON and is written as it stands.
+#[tactic(auto, using(crate::proofs::Contents::refused_content))]
 pub(crate) fn content(alloc: Global, bytes: &[u8]) -> Result<Text, LineError>
     ensures { ReadsAs (spec.content bytes.now) result }
 {

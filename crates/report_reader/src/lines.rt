@@ -43,12 +43,14 @@ fn begin(words: &[&[u8]]) -> Result<Line, LineError>
     Ok(Line::Begin { actor, op })
 }
 
-fn exchange(alloc: Global, words: &[&[u8]]) -> Result<Line, LineError>
-    ensures { ReadsAs (spec.exchange (texts words.now)) result }
+fn exchange_of(
+    alloc: Global,
+    actor: &[u8],
+    sent: &[u8],
+    answered: &[u8],
+) -> Result<Line, LineError>
+    ensures { ReadsAs (spec.exchange_of actor.now sent.now answered.now) result }
 {
-    let [actor, sent, answered] = words else {
-        return Err(LineError::NoPlace);
-    };
     let actor = byte(actor)?;
     let command = command(alloc, sent)?;
     let response = response(alloc, answered)?;
@@ -57,6 +59,15 @@ fn exchange(alloc: Global, words: &[&[u8]]) -> Result<Line, LineError>
         command,
         response,
     })
+}
+
+fn exchange(alloc: Global, words: &[&[u8]]) -> Result<Line, LineError>
+    ensures { ReadsAs (spec.exchange (texts words.now)) result }
+{
+    match words {
+        [actor, sent, answered] => exchange_of(alloc, actor, sent, answered),
+        _ => Err(LineError::NoPlace),
+    }
 }
 
 /// Whether the card acted, as 1 or 0.
@@ -174,6 +185,7 @@ fn ends(script: &Script, actor: u8, op: u32) -> bool
     }
 }
 
+#[tactic(auto, using(crate::proofs::Counts::few_words))]
 fn answered(alloc: Global, script: &Script, words: &[&[u8]]) -> Result<Line, LineError>
     ensures { ReadsAs (spec.answered script.now (texts words.now)) result }
 {

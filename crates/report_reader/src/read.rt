@@ -1,6 +1,6 @@
 // A report from its bytes.
 ghost use Rattle.std.specs.Prelude.{[]};
-ghost use Rattle.report_reader.specs.Reads.{ReadsAs, AnswersAs, texts};
+ghost use Rattle.report_reader.specs.Reads.{ReadsAs, AnswersAs, ChangesTo, texts};
 ghost use Rattle.report_reader.specs.Reports as spec;
 
 use crate::error::{LineError, ReportError, check};
@@ -71,6 +71,21 @@ fn read_line(
     }
 }
 
+/// Puts the line of this text behind the others.
+fn add_line(
+    alloc: Global,
+    script: &Script,
+    number: u64,
+    text: &[u8],
+    lines: &mut Lines,
+) -> Result<(), ReportError>
+    ensures { ChangesTo (spec.with_line script.now number text.now lines.old) lines.new result }
+{
+    let line = read_line(alloc, script, number, text)?;
+    lines.push(&line)?;
+    Ok(())
+}
+
 /// The lines of these parts up to `end`. The first of them is line 3.
 fn lines_of(alloc: Global, script: &Script, parts: &[&[u8]]) -> Result<Lines, ReportError>
     ensures { AnswersAs (spec.lines_from script.now 3 [] (texts parts.now)) result }
@@ -85,8 +100,7 @@ fn lines_of(alloc: Global, script: &Script, parts: &[&[u8]]) -> Result<Lines, Re
         if is_word(text, "end") {
             return ended(lines, number + 1, behind);
         }
-        let line = read_line(alloc, script, number, text)?;
-        lines.push(&line)?;
+        add_line(alloc, script, number, text, &mut lines)?;
         number += 1;
         rest = behind;
     }
@@ -122,6 +136,7 @@ fn mode_part(line: &[u8], behind: &[&[u8]]) -> Result<Mode, ReportError>
     }
 }
 
+#[tactic(auto, using(crate::proofs::Counts::few_parts))]
 fn report_of_parts(alloc: Global, parts: &[&[u8]]) -> Result<Report, ReportError>
     ensures { AnswersAs (spec.report_of_parts (texts parts.now)) result }
 {
