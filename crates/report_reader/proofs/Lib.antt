@@ -1,3 +1,4 @@
 mod Lists
 mod Counts
 mod Contents
+mod Steps

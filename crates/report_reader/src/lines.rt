@@ -61,13 +61,14 @@ fn exchange_of(
     })
 }
 
+#[tactic(auto, using(crate::proofs::Counts::other_count, crate::proofs::Counts::three_words))]
 fn exchange(alloc: Global, words: &[&[u8]]) -> Result<Line, LineError>
     ensures { ReadsAs (spec.exchange (texts words.now)) result }
 {
-    match words {
-        [actor, sent, answered] => exchange_of(alloc, actor, sent, answered),
-        _ => Err(LineError::NoPlace),
+    if words.len() != 3 {
+        return Err(LineError::NoPlace);
     }
+    exchange_of(alloc, words[0], words[1], words[2])
 }
 
 /// Whether the card acted, as 1 or 0.
