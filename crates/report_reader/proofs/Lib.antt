@@ -2,3 +2,4 @@ mod Lists
 mod Counts
 mod Contents
 mod Steps
+mod Numbers

@@ -188,12 +188,7 @@ fn of_two(alloc: Global, name: &[u8], first: &[u8], second: &[u8]) -> Result<Ans
     }
 }
 
-fn done(
-    alloc: Global,
-    event: &[u8],
-    publication: &[u8],
-    left: &[u8],
-) -> Result<Answer, LineError>
+fn done(alloc: Global, event: &[u8], publication: &[u8], left: &[u8]) -> Result<Answer, LineError>
     ensures { ReadsAs (spec.done event.now publication.now left.now) result }
 {
     let event = number(event)?;
@@ -236,12 +231,7 @@ fn of_three(
 }
 
 /// What is shown of each of the three families.
-fn look(
-    count: &[u8],
-    records: &[u8],
-    phonebook: &[u8],
-    fixed: &[u8],
-) -> Result<Answer, LineError>
+fn look(count: &[u8], records: &[u8], phonebook: &[u8], fixed: &[u8]) -> Result<Answer, LineError>
     ensures { ReadsAs (spec.look count.now records.now phonebook.now fixed.now) result }
 {
     let count = number(count)?;
@@ -296,12 +286,7 @@ fn notices(fields: &[&[u8]]) -> Result<Answer, LineError>
 }
 
 #[tactic(auto, using(crate::proofs::Counts::many_words))]
-fn of_words(
-    alloc: Global,
-    ends: bool,
-    name: &[u8],
-    fields: &[&[u8]],
-) -> Result<Answer, LineError>
+fn of_words(alloc: Global, ends: bool, name: &[u8], fields: &[&[u8]]) -> Result<Answer, LineError>
     ensures { ReadsAs (spec.of_words ends name.now (texts fields.now)) result }
 {
     match fields {

@@ -10,3 +10,6 @@ mod words;
 
 pub use error::ReportError;
 pub use read::read_report;
+
+#[cfg(test)]
+mod tests;

@@ -7,8 +7,7 @@ use crate::answers::answer_of;
 use crate::content::content;
 use crate::error::LineError;
 use crate::words::{
-    behind_word, byte, command, family, first_word, is_word, number, number_to, parts_of,
-    response,
+    behind_word, byte, command, family, first_word, is_word, number, number_to, parts_of, response,
 };
 use card_model::WorldEvent;
 use report::Line;
@@ -43,12 +42,7 @@ fn begin(words: &[&[u8]]) -> Result<Line, LineError>
     Ok(Line::Begin { actor, op })
 }
 
-fn exchange_of(
-    alloc: Global,
-    actor: &[u8],
-    sent: &[u8],
-    answered: &[u8],
-) -> Result<Line, LineError>
+fn exchange_of(alloc: Global, actor: &[u8], sent: &[u8], answered: &[u8]) -> Result<Line, LineError>
     ensures { ReadsAs (spec.exchange_of actor.now sent.now answered.now) result }
 {
     let actor = byte(actor)?;

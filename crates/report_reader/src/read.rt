@@ -57,12 +57,7 @@ fn ended(lines: Lines, number: u64, behind: &[&[u8]]) -> Result<Lines, ReportErr
     }
 }
 
-fn read_line(
-    alloc: Global,
-    script: &Script,
-    number: u64,
-    text: &[u8],
-) -> Result<Line, ReportError>
+fn read_line(alloc: Global, script: &Script, number: u64, text: &[u8]) -> Result<Line, ReportError>
     ensures { AnswersAs (spec.read_line script.now number text.now) result }
 {
     match line_of(alloc, script, text) {
