@@ -3,3 +3,5 @@ mod Counts
 mod Contents
 mod Steps
 mod Numbers
+mod LinesBack
+mod AnswersBack

@@ -4,3 +4,4 @@ pub mod Content
 pub mod Answers
 pub mod Lines
 pub mod Reports
+pub mod ReadBack
