@@ -21,7 +21,7 @@ IsBack s l = line_of s (line_words l) ≡ Some l
 pub byte_back : (n : ℕ) → IsByte n → byte (decimal n) ≡ Some n
 byte_back n h = number_back 255 n (omega (arith, h)) h
 
-place_back : (n : ℕ) → IsPlace n → place (decimal n) ≡ Some n
+pub place_back : (n : ℕ) → IsPlace n → place (decimal n) ≡ Some n
 place_back n h = number_back 4294967295 n (omega (arith, h)) h
 
 pub any_back : (n : ℕ) → IsNumber n → number (decimal n) ≡ Some n
@@ -72,6 +72,3 @@ refused_back s zero n h k = rw (last_number n (omega (arith, k)), any_back n k) 
 refused_back s (suc zero) n h k = rw (last_number n (omega (arith, k)), any_back n k) refl
 refused_back s (suc (suc zero)) n h k = rw (last_number n (omega (arith, k)), any_back n k) refl
 refused_back s (suc (suc (suc f))) n h k = absurd (omega (arith, h))
-
-published_words : (k : ℕ) (name : List ℕ) (e n : ℕ) (text : List ℕ) → line_words (line.Published k 0 e n text) ≡ codes "p " ++ (decimal k ++ (codes " records " ++ (decimal e ++ (32 ∷ (decimal n ++ (32 ∷ text))))))
-published_words k name e n text = rw (append_assoc (decimal k) (codes " records") (32 ∷ decimal e), append_assoc (decimal k) (codes " records " ++ decimal e) (32 ∷ decimal n), append_assoc (decimal k) (codes " records " ++ decimal e ++ (32 ∷ decimal n)) (32 ∷ text), append_assoc (decimal e) (32 ∷ decimal n) (32 ∷ text)) refl
