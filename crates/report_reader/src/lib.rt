@@ -4,13 +4,11 @@
 mod answers;
 mod content;
 mod error;
-mod law;
 mod lines;
 mod read;
 mod words;
 
 pub use error::ReportError;
-pub use law::lines_are_read_back;
 pub use read::read_report;
 
 #[cfg(test)]
