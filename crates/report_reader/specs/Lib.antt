@@ -4,4 +4,3 @@ pub mod Content
 pub mod Answers
 pub mod Lines
 pub mod Reports
-pub mod ReadBack

@@ -10,6 +10,3 @@ mod words;
 
 pub use error::ReportError;
 pub use read::read_report;
-
-#[cfg(test)]
-mod tests;
