@@ -1,0 +1,4 @@
+pub mod Scripts
+pub mod Ties
+pub mod Follows
+pub mod Premises

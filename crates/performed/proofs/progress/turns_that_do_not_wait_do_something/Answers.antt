@@ -1,0 +1,5 @@
+use Rattle.performed.proofs.ProgressMoves.{marks_move}
+use Rattle.performed.proofs.progress.turns_that_do_not_wait_do_something.Goals as goal
+
+pub returns : goal.returns
+returns c = marks_move
