@@ -18,8 +18,8 @@ use Rattle.rules.specs.declared.kept.Begun.{Begun}
 use Rattle.rules.specs.declared.kept.Kept.{Kept}
 use Rattle.rules.specs.declared.kept.Outcome.{Outcome}
 use Rattle.rules.specs.declared.kept.Outcome.TheVariants as outcome
-use Rattle.rules.specs.Channels.{is_handle_of, handle_of, without_handle, with_handle, handles_after}
-use Rattle.rules.specs.Kept.{begun_of, begun_operation, operation_at, operation_now}
+use Rattle.rules.specs.Channels.{is_handle_of, without_handle, handles_after}
+use Rattle.rules.specs.Kept.{begun_of, begun_operation, operation_at}
 use Rattle.rules.specs.After.{handles_given}
 use Rattle.rules.specs.Due.{due, due_answer, with_card, with_ended, is_lost, answer_of_outcome, outcome_answer, answer_of_begun, answer_of_actor}
 use Rattle.rules.specs.Rules.{is_turn_of, is_begun_at, same_answer}

@@ -1,5 +1,5 @@
 -- The epoch of each handle that an actor holds lives, or has an end.
-use Rattle.std.proofs.Common.{◌≡◌, ℕ, ◌+◌, ◌==◌, ◌&&◌, ◌||◌, Bool, true, false, if◌then◌else◌, List, [], ◌∷◌, Option, Some, None, is_some, refl, sym, ap, ◌∙◌, subst, arith, true≢false}
+use Rattle.std.proofs.Common.{◌≡◌, ℕ, ◌+◌, ◌==◌, ◌||◌, Bool, true, false, if◌then◌else◌, List, [], ◌∷◌, Option, Some, None, refl, sym, ap, ◌∙◌, subst, arith}
 use Rattle.std.specs.List.{list_all}
 use Rattle.std.proofs.lemmas.Bool.{and_parts, and_from}
 use Rattle.script_reader.specs.declared.types.Script.{Script}
@@ -17,7 +17,7 @@ use Rattle.rules.specs.Kept.{job_of, begun_of, operation_at}
 use Rattle.rules.specs.After.{ended_by, handles_given, kept_after, kept_of}
 use Rattle.performed.specs.Followed.{is_followed, are_followed}
 use Rattle.performed.proofs.ProgressSound.{lives_or_ended, lives_step, IsSoundOption, IsSoundJob, sound}
-use Rattle.performed.proofs.Handles.{new_handle, given_good, all_mapped, all_still, Opens, opens}
+use Rattle.performed.proofs.Handles.{given_good, all_mapped, all_still, Opens, opens}
 
 abbrev pub is_sound_handle : Past → Handle → Bool
 is_sound_handle history h = lives_or_ended history (Some h.epoch) h.ended
