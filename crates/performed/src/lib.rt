@@ -4,9 +4,11 @@
 
 mod endings;
 mod progress;
+mod turns;
 
 pub use endings::{counters_are_at_most_lines, turns_end};
 pub use progress::{
     begun_operations_do_something, marks_leave_open, nobody_moves_once_finished,
     somebody_moves_until_finished, turns_that_do_not_wait_do_something,
 };
+pub use turns::{actors_stay_plain, turns_that_do_not_wait_move};

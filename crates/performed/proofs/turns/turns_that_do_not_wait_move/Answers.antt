@@ -1,0 +1,5 @@
+use Rattle.performed.proofs.TurnsMove.{turns_move}
+use Rattle.performed.proofs.turns.turns_that_do_not_wait_move.Goals as goal
+
+pub returns : goal.returns
+returns c = turns_move
