@@ -17,13 +17,13 @@ use Rattle.rules.specs.After.{is_mark, kept_after, kept_of}
 use Rattle.rules.specs.Due.{due}
 use Rattle.rules.specs.Kept.{actor_count}
 use Rattle.rules.specs.Legal.{are_legal_lines, legal}
-use Rattle.rules.specs.Performed.{ends_turn}
+use Rattle.rules.specs.Performed.{ends_turn, are_due}
 use Rattle.performed.specs.Served.{serves}
-use Rattle.performed.specs.Followed.{are_followed, is_followed}
+use Rattle.performed.specs.Followed.{are_followed}
 use Rattle.performed.specs.Told.{are_told}
 use Rattle.performed.specs.Placed.{are_placed, is_turn_allowed}
 use Rattle.performed.specs.Measure.{steps_left}
-use Rattle.performed.specs.Progress.{operations_left, stale_count, Moves}
+use Rattle.performed.specs.Progress.{operations_left, Moves}
 
 -- ---- legality
 
@@ -34,6 +34,10 @@ LinesAreLegal = (s : Script) (m : Mode) (lines : List Line) → keeps_rules s �
 -- and neither does their end, where the run is finished and nothing is due in its last turn
 abbrev pub RunIsLegal : Type 0
 RunIsLegal = (r : Report) → keeps_rules r.script ≡ true → serves r.script ≡ true → are_followed r.script r.lines ≡ true → are_told r.script r.lines ≡ true → are_placed r.script r.mode r.lines ≡ true → is_turn_allowed r.mode (kept_of r.script r.lines).turn ≡ true → ends_turn (due r.script (kept_of r.script r.lines)) ≡ true → is_finished r.script (kept_of r.script r.lines) ≡ true → legal r ≡ true
+
+-- each of them is what is due, with its numbers and its text
+abbrev pub LinesArePerformed : Type 0
+LinesArePerformed = (s : Script) (lines : List Line) → are_followed s lines ≡ true → are_told s lines ≡ true → are_due s lines ≡ true
 
 -- ---- turns end
 

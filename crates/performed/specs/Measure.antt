@@ -2,8 +2,7 @@
 --
 -- A turn sends at most three commands one behind another (an open: MANAGE CHANNEL, SELECT by AID, and the close behind its refusal), of
 -- four exchanges each, and resets the card behind a FETCH.
-use Rattle.std.specs.Prelude.{ℕ, ◌+◌, ◌-◌, ◌*◌, ◌==◌, Bool, true, false, if◌then◌else◌, List, Option, Some, None, is_some, is_none}
-use Rattle.apdu.specs.Values.{CommandValue}
+use Rattle.std.specs.Prelude.{ℕ, ◌+◌, ◌-◌, ◌*◌, ◌==◌, Bool, false, if◌then◌else◌, List, Option, Some, None, is_some, is_none}
 use Rattle.apdu.specs.Apdu.{select_ins}
 use Rattle.link.specs.declared.chain.Chain.{Chain}
 use Rattle.rules.specs.declared.kept.Job.{Job}

@@ -1,5 +1,5 @@
 -- Turns in the order of a mode: a replay's come by the script's schedule and then round, and a run has none without lines.
-use Rattle.std.specs.Prelude.{ℕ, ◌&&◌, ◌||◌, not, Bool, true, false, List, [], ◌∷◌}
+use Rattle.std.specs.Prelude.{◌&&◌, ◌||◌, not, Bool, true, false, List, [], ◌∷◌}
 use Rattle.script_reader.specs.declared.types.Script.{Script}
 use Rattle.report.specs.declared.line.Mode.{Mode}
 use Rattle.report.specs.declared.line.Mode.TheVariants.{Replay, Run}
