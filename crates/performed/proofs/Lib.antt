@@ -14,6 +14,7 @@ mod MeasureBegun
 mod MeasureNumbers
 mod Measure
 mod CalmLent
+mod CalmKinds
 mod CalmSends
 mod CalmArmed
 mod CalmCards
