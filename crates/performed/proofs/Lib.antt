@@ -14,8 +14,10 @@ mod MeasureBegun
 mod MeasureNumbers
 mod Measure
 mod CalmLent
+mod JobPlaces
 mod CalmKinds
 mod CalmSends
+mod CalmVerify
 mod CalmArmed
 mod CalmCards
 mod CalmRest
