@@ -580,7 +580,7 @@ module _ (s : Script) (k : Kept) where
   abbrev StaysAt : ℕ → Job → Type 0
   StaysAt i job = begun_operation s i job.begun ≡ operation_now s i k.jobs
 
-  beside_stays : (l : Line) (i : ℕ) → StaysAt i (job_of i (jobs_beside l k.history.epoch (facts_of s l k) k.selected k.jobs))
+  pub beside_stays : (l : Line) (i : ℕ) → StaysAt i (job_of i (jobs_beside l k.history.epoch (facts_of s l k) k.selected k.jobs))
   beside_stays l i =
       mapped (job_beside l k.history.epoch (facts_of s l k) k.selected) StaysAt StaysAt k.jobs (λ (j : ℕ). refl)
       (λ (j : ℕ) (x : Job) p. index_kept s j (begun_beside l k.history.epoch (facts_of s l k)) (λ b. refl) x.begun ∙ p)

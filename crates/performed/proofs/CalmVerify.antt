@@ -1,6 +1,6 @@
 -- Over a script that is served each VERIFY is that of a verification, and it sends no other: behind it the answer is due.
 use Rattle.std.proofs.Common.{◌≡◌, ◌⊎◌, inl, inr, ℕ, zero, suc, ◌+◌, ◌-◌, ◌==◌, ◌&&◌, ◌||◌, not, Bool, true, false, if◌then◌else◌, List, [], ◌∷◌, replicate, length, Option, Some, None, is_some, refl, ap, sym, ◌∙◌, subst, true≢false}
-use Rattle.std.specs.Prelude.{option_map}
+use Rattle.std.specs.Prelude.{option_map, nat_lt, nat_le}
 use Rattle.std.proofs.lemmas.Bool.{and_parts, and_from, eq-eqb}
 use Rattle.apdu.specs.Values.{CommandValue, ResponseValue}
 use Rattle.apdu.specs.Words.{has_value, or_else, same_number, same_bytes}
@@ -40,18 +40,22 @@ use Rattle.rules.specs.Kept.{actor_count, first_job, job_of, begun_of, begun_ope
 use Rattle.rules.specs.After.{facts_of, decision_at, edit_of, begun_beside, begun_with, begun_exchanged, begun_failed, job_beside, jobs_beside, jobs_of_actor, own_job, opened_behind, outcome_of, refused_of, stage_after, kept_after, kept_of}
 use Rattle.rules.specs.Due.{command_by_chain, command_by_stage, due, due_answer, due_command, event_by_stage, is_reset_due, reset_by_stage, tried_event, answer_of_actor, answer_of_begun, answer_of_outcome, outcome_answer, with_card, with_ended, is_lost}
 use Rattle.rules.specs.Performed.{ends_turn, is_reset, is_sent}
-use Rattle.rules.specs.Rules.{is_turn_of, turn_operation, begun_in_turn, has_verified, has_right_verify, is_verify_of}
+use Rattle.rules.specs.Rules.{is_turn_of, turn_operation, begun_in_turn, has_verified, has_right_verify, is_verify_of, operation_in_turn}
 use Rattle.performed.specs.Served.{serves}
 use Rattle.performed.specs.Followed.{begins_turn, is_followed, are_followed, is_tried}
 use Rattle.performed.specs.Told.{are_told}
 use Rattle.performed.proofs.MeasureSays.{stands_of}
 use Rattle.performed.proofs.CalmLent.{sent_of, lost_of}
-use Rattle.performed.proofs.CalmKinds.{IsForm, IsRawOn, WorkFits, Sends, Kind, calm, application, opens, gives_up, closes, verifies}
-use Rattle.performed.proofs.CalmSends.{unlike, never, no_verify, form_ins, raw_other, turn_of, turn_by, exchanged_actor, exchanged_bare, index_kept, refit, work_there, exchange_of_turn, failed_of_turn, exchange_kind, failed_kind, sends_of}
+use Rattle.performed.proofs.CalmKinds.{IsForm, IsRawOn, WorkFits, Sends, Kind, calm, application, opens, gives_up, closes, verifies, IsOfTurn}
+use Rattle.performed.proofs.CalmSends.{unlike, never, no_verify, form_ins, raw_other, turn_of, turn_by, exchanged_actor, exchanged_bare, index_kept, refit, work_there, exchange_of_turn, failed_of_turn, exchange_kind, failed_kind, sends_of, beside_stays}
 use Rattle.performed.proofs.ProgressBegins.{Starts, starts}
 use Rattle.performed.proofs.ProgressGoes.{goes_by_answer}
 use Rattle.performed.proofs.ProgressJobs.{changed, mapped}
 use Rattle.performed.proofs.ProgressSound.{IsSoundBegun, IsSoundOption, IsSoundJob, lives_or_ended, sound}
+use Rattle.rules.specs.declared.kept.Outcome.{Outcome}
+use Rattle.rules.specs.declared.kept.Outcome.TheVariants as outcome
+use Rattle.rules.specs.Work.{is_finished}
+use Rattle.rules.specs.History.{is_living}
 
 -- ---- a VERIFY that follows
 
@@ -203,3 +207,228 @@ module _ (s : Script) (k : Kept) where
 
   answered_spent : (a n : ℕ) (given : Answer) (i : ℕ) (op : Option Operation) → HasSent k i op → HasSent (kept_after s (line.Answered a n given) k) i op
   answered_spent a n given i op t = record { key = t.key; pin = t.pin; is = t.is; actor = t.actor; bare = refl; stage = refl; chain = refl; cause = t.cause }
+
+-- ---- the VERIFY itself
+
+-- the turn behind a final response to it
+came : (success : Bool) (good bad : Option Outcome) → is_some good ≡ true → is_some bad ≡ true → is_some (if success then good else bad) ≡ true
+came true good bad h g = h
+came false good bad h g = g
+
+or_came : (o p : Option Outcome) → is_some p ≡ true → is_some (or_else o p) ≡ true
+or_came None p h = h
+or_came (Some x) p h = refl
+
+module _ (key : ℕ) (pin : List ℕ) where
+  abbrev verification : Option Operation
+  verification = Some (operation.Verify key pin)
+
+  verify_over : (alive : ℕ → Bool) (handles : List Handle) (actor : Option ℕ) (work : Work) (opened : Option ℕ) (job : Job) (refresh : Option ProactiveValue) (f : Final) → WorkFits alive handles actor verification work → stage_after work verification opened job refresh f ≡ over
+  verify_over alive handles actor (sends c) opened job refresh f w = refl
+  verify_over alive handles actor (reads path) opened job refresh f w = absurd w
+  verify_over alive handles actor writes opened job refresh f w = absurd w
+  verify_over alive handles actor rests opened job refresh f w = refl
+  verify_over alive handles actor (refuses r) opened job refresh f w = refl
+  verify_over alive handles actor (lacks k) opened job refresh f w = refl
+  verify_over alive handles actor resets opened job refresh f w = refl
+  verify_over alive handles actor (happens e) opened job refresh f w = refl
+
+  verify_came : (opened : Option ℕ) (f : Final) → is_some (outcome_of verification opened f) ≡ true
+  verify_came opened f = came (is_success f.response.sw) (Some outcome.Verified) (Some (outcome.Status (record { 0 = f.response.sw }) f.event)) refl refl
+
+record IsAnswered (t : Turn) : Type 0 where
+  stage : t.stage ≡ over
+  outcome : is_some t.outcome ≡ true
+
+module _ (alive : ℕ → Bool) (handles : List Handle) (actor : Option ℕ) (job : Job) (held : List ℕ) (facts : Facts) (refused : Option RefusedReading) (t : Turn) where
+  verify_turn : (key : ℕ) (pin : List ℕ) (o : Option Final) (f : Final) → o ≡ Some f → WorkFits alive handles actor (Some (operation.Verify key pin)) t.work → IsAnswered (turn_by (Some (operation.Verify key pin)) job held facts refused t o)
+  verify_turn key pin None f e w = absurd (cc)
+  verify_turn key pin (Some g) f e w = record {
+    stage = verify_over key pin alive handles actor t.work (opened_behind held g t.opened) job facts.touch.refresh g w;
+    outcome = or_came t.outcome (outcome_of (verification key pin) (opened_behind held g t.opened) g) (verify_came key pin (opened_behind held g t.opened) g);
+  }
+
+no_more : (a b c : Bool) → c ≡ true → (a && b && not c) ≡ false
+no_more true true true h = refl
+no_more true false true h = refl
+no_more false b true h = refl
+no_more a b false h = absurd (true≢false (sym h))
+
+none_if : {A : Type 0} (b : Bool) (x : A) → b ≡ false → (if b then Some x else None) ≡ None
+none_if true x h = absurd (true≢false h)
+none_if false x h = refl
+
+some_if : {A : Type 0} (b : Bool) (x : A) → b ≡ false → (if b then None else Some x) ≡ Some x
+some_if true x h = absurd (true≢false h)
+some_if false x h = refl
+
+or_verify : (sent verify : Bool) → (sent || verify) ≡ true → (sent ≡ true) ⊎ (verify ≡ true)
+or_verify true verify h = inl refl
+or_verify false verify h = inr h
+
+-- a command of the operation under way
+sent_now : (f : Begun → Begun) (verify : Bool) → ((b : Begun) → (f b).verified ≡ (b.verified || verify)) → (o : Option Begun) → has_verified (option_map f o) ≡ true → (has_verified o ≡ true) ⊎ (verify ≡ true)
+sent_now f verify keeps None h = never h
+sent_now f verify keeps (Some b) h = or_verify b.verified verify (sym (keeps b) ∙ h)
+
+module _ (s : Script) (k : Kept) (t : Sends s k) (nobody : Nobody k) (a : ℕ) (turn : k.turn.actor ≡ Some a) (c : CommandValue) (sent : IsOfTurn k.turn.work k.turn.stage c) (kind : Kind s k c) where
+  abbrev now : Option Operation
+  now = operation_now s a k.jobs
+
+  -- what is known of each job behind the line
+  abbrev Follows : Kept → ℕ → Job → Type 0
+  Follows new i job = (begun_operation s i job.begun ≡ operation_now s i k.jobs) × Spent s new i job
+
+  beside_follows : (l : Line) (new : Kept) (i : ℕ) → Follows new i (job_of i (jobs_beside l k.history.epoch (facts_of s l k) k.selected k.jobs))
+  beside_follows l new i = (beside_stays s k l i, λ h. absurd (nobody_beside s k l nobody i h))
+
+  -- the job of the line's actor
+  own_follows : (new : Kept) (f : Begun → Begun) → ((b : Begun) → (f b).index ≡ b.index) → ((b : Begun) → (f b).verified ≡ (b.verified || (c.ins == verify_ins))) → ((c.ins == verify_ins) ≡ true → HasSent new a now) → (x : Option Begun) → (begun_operation s a x ≡ now) × (has_verified x ≡ true → HasSent new a (begun_operation s a x)) → (begun_operation s a (option_map f x) ≡ now) × (has_verified (option_map f x) ≡ true → HasSent new a (begun_operation s a (option_map f x)))
+  own_follows new f index verified here x p =
+      let same : begun_operation s a (option_map f x) ≡ begun_operation s a x = index_kept s a f index x in
+      (same ∙ p.0, λ h. by_sent same (sent_now f (c.ins == verify_ins) verified x h))
+    where
+      by_sent : begun_operation s a (option_map f x) ≡ begun_operation s a x → (has_verified x ≡ true) ⊎ ((c.ins == verify_ins) ≡ true) → HasSent new a (begun_operation s a (option_map f x))
+      by_sent same (inl h) = subst (λ (op : Option Operation). HasSent new a op) (sym same) (p.1 h)
+      by_sent same (inr h) = subst (λ (op : Option Operation). HasSent new a op) (sym (same ∙ p.0)) (here h)
+
+  verification_now : (v : IsVerification s k c) → now ≡ Some (operation.Verify v.key v.pin)
+  verification_now v = sym (ap (operation_in_turn s k) turn) ∙ v.operation
+
+  work_now : (v : IsVerification s k c) → WorkFits (is_living k.history) k.handles (Some a) (Some (operation.Verify v.key v.pin)) k.turn.work
+  work_now v =
+      let op : Option Operation = Some (operation.Verify v.key v.pin) in
+      work_there (is_living k.history) k.handles (Some a) op k.turn.opened k.turn.work k.turn.stage c sent
+      (refit (is_living k.history) k.handles k.turn.actor (Some a) (turn_operation s k) op k.turn.opened k.turn.work k.turn.stage turn v.operation t.fits)
+
+  failed_spent : (d : Bool) → IsVerification s k c → HasSent (kept_after s (line.Failed a c d) k) a now
+  failed_spent d v = record { key = v.key; pin = v.pin; is = verification_now v; actor = turn; bare = refl; stage = refl; chain = refl; cause = inl refl }
+
+  failed_once : (d : Bool) → Once s (kept_after s (line.Failed a c d) k)
+  failed_once d i =
+      let l : Line = line.Failed a c d in
+      (changed (own_job s l k (facts_of s l k) (decision_at s l k).attempt) (Follows (kept_after s l k)) (jobs_beside l k.history.epoch (facts_of s l k) k.selected k.jobs) a
+      (λ (x : Job) p. own_follows (kept_after s l k) (begun_failed (edit_of now) k.selected k.chain (facts_of s l k).event c) (λ b. refl) (λ b. refl) (λ h. failed_spent d (kind_verify s k c kind h)) x.begun p)
+      (beside_follows l (kept_after s l k)) i).1
+
+  exchanged_spent : (r : ResponseValue) → (c.ins == verify_ins) ≡ true → IsVerification s k c → HasSent (kept_after s (line.Exchange a c r) k) a now
+  exchanged_spent r h v =
+      let l : Line = line.Exchange a c r in
+      let facts : Facts = facts_of s l k in
+      let beside : List Job = jobs_beside l k.history.epoch facts k.selected k.jobs in
+      let job : Job = job_of a (jobs_of_actor s l k facts (decision_at s l k).attempt (Some a) beside) in
+      let held : List ℕ = held_numbers k.history k.handles in
+      let refused : Option RefusedReading = refused_of k.selected beside facts.answered in
+      let count : ℕ = chain_count c k.chain + 1 in
+      let final : Final = record { actor = a; command = chain_first c k.chain; response = r; event = k.history.events + 1; first_event = k.history.events + 1 - chain_count c k.chain } in
+      let ends : asks_more count c r ≡ false = no_more (wants_more r.sw) (nat_lt count most_exchanges) (c.ins == verify_ins) h in
+      let answered : facts.answered ≡ Some final = some_if (asks_more count c r) final ends in
+      let over_now : IsAnswered (turn_by (Some (operation.Verify v.key v.pin)) job held facts refused k.turn facts.answered) = verify_turn (is_living k.history) k.handles (Some a) job held facts refused k.turn v.key v.pin facts.answered final answered (work_now v) in
+      let behind : IsAnswered (kept_after s l k).turn = subst (λ (op : Option Operation). IsAnswered (turn_by op job held facts refused k.turn facts.answered)) (sym (verification_now v)) over_now in
+      record {
+        key = v.key;
+        pin = v.pin;
+        is = verification_now v;
+        actor = exchanged_actor now job held facts refused k.turn facts.answered ∙ turn;
+        bare = exchanged_bare now job held facts refused k.turn facts.answered;
+        stage = behind.stage;
+        chain = none_if (asks_more count c r) (record { first = chain_first c k.chain; count = count; next = follow_up c r }) ends;
+        cause = inr behind.outcome;
+      }
+
+  exchanged_once : (r : ResponseValue) → Once s (kept_after s (line.Exchange a c r) k)
+  exchanged_once r i =
+      let l : Line = line.Exchange a c r in
+      (changed (own_job s l k (facts_of s l k) (decision_at s l k).attempt) (Follows (kept_after s l k)) (jobs_beside l k.history.epoch (facts_of s l k) k.selected k.jobs) a
+      (λ (x : Job) p. own_follows (kept_after s l k) (begun_exchanged (edit_of now) k.selected k.chain (facts_of s l k).event c r) (λ b. refl) (λ b. refl) (λ h. exchanged_spent r h (kind_verify s k c kind h)) x.begun p)
+      (beside_follows l (kept_after s l k)) i).1
+
+-- ---- every line
+
+module _ (s : Script) (k : Kept) (t : Sends s k) (lives : (i : ℕ) → IsSoundJob s k.history i (job_of i k.jobs)) (once : Once s k) where
+  -- where nobody has sent one
+  by_nobody : (new : Kept) → Nobody new → Once s new
+  by_nobody new nobody i h = absurd (nobody i h)
+
+  answered_once : (a i : ℕ) (given : Answer) → Once s (kept_after s (line.Answered a i given) k)
+  answered_once a i given =
+      let l : Line = line.Answered a i given in
+      changed (own_job s l k (facts_of s l k) (decision_at s l k).attempt) (Spent s (kept_after s l k)) (jobs_beside l k.history.epoch (facts_of s l k) k.selected k.jobs) a
+      (λ (x : Job) p h. never h)
+      (beside_spent s k (kept_after s l k) (answered_spent s k a i given) l once)
+
+  same_actor : (a : ℕ) → is_turn_of a k.turn ≡ true → k.turn.actor ≡ Some a
+  same_actor a h = turn_of a k.turn.actor h
+
+  line_once : (l : Line) → is_followed s k l ≡ true → Once s (kept_after s l k)
+  line_once (line.Turn a) h = by_nobody (kept_after s (line.Turn a) k) (nobody_own s k (line.Turn a) a (marked_unsent s k a (decision_at s (line.Turn a) k).attempt) (none_turns s k once lives (turn_ends h)))
+    where
+      turn_ends : begins_turn s k (due s k) a ≡ true → ends_turn (due s k) ≡ true
+      turn_ends g = (and_parts (ends_turn (due s k)) (not (is_finished s k)) (and_parts (ends_turn (due s k) && not (is_finished s k)) (nat_le a (actor_count s)) g).0).0
+  line_once (line.Begin a i) h = by_nobody (kept_after s (line.Begin a i) k) (nobody_own s k (line.Begin a i) a (λ (x : Job) p g. never g) (none_begins s k once a i h))
+  line_once (line.Exchange a c r) h = exchanged_once s k t (none_exchanges s k once a c r h) a (same_actor a (and_parts (is_turn_of a k.turn) (is_sent (due s k) (line.Exchange a c r)) h).0) c (exchange_of_turn s k a c r t h) (exchange_kind s k a c r t h) r
+  line_once (line.Failed a c d) h = failed_once s k t (none_fails s k once a c d h) a (same_actor a (and_parts (is_turn_of a k.turn) (is_sent (due s k) (line.Failed a c d)) h).0) c (failed_of_turn s k a c d t h) (failed_kind s k a c d t h) d
+  line_once (line.Reset a) h = by_nobody (kept_after s (line.Reset a) k) (nobody_beside s k (line.Reset a) (none_resets s k once a h))
+  line_once (line.ResetFailed a) h = by_nobody (kept_after s (line.ResetFailed a) k) (nobody_beside s k (line.ResetFailed a) (none_resets s k once a h))
+  line_once (line.World a e) h = by_nobody (kept_after s (line.World a e) k) (nobody_beside s k (line.World a e) (none_happens s k once a e h))
+  line_once (line.Published n f e v text) h = beside_spent s k (kept_after s (line.Published n f e v text) k) (published_spent s k n f e v text) (line.Published n f e v text) once
+  line_once (line.EpochEnd n e v) h = beside_spent s k (kept_after s (line.EpochEnd n e v) k) (told_spent s k n e v) (line.EpochEnd n e v) once
+  line_once (line.Refused f n) h = beside_spent s k (kept_after s (line.Refused f n) k) (refused_spent s k f n) (line.Refused f n) once
+  line_once (line.Answered a i given) h = answered_once a i given
+
+first_unsent : (n i : ℕ) → has_verified (begun_of i (replicate n first_job)) ≡ true → ⊥
+first_unsent zero i h = never h
+first_unsent (suc n) zero h = never h
+first_unsent (suc n) (suc i) h = first_unsent n i h
+
+once_of : (s : Script) (lines : List Line) → serves s ≡ true → are_followed s lines ≡ true → Once s (kept_of s lines)
+once_of s [] served h i v = absurd (first_unsent (actor_count s + 1) i v)
+once_of s (l ∷ earlier) served h =
+    let p = and_parts (are_followed s earlier) (is_followed s (kept_of s earlier) l) h in
+    line_once s (kept_of s earlier) (sends_of s earlier served p.0) (sound s earlier p.0) (once_of s earlier served p.0) l p.1
+
+-- ---- the rule of verifications
+
+number_itself : (o : Option ℕ) → same_number o o ≡ true
+number_itself None = refl
+number_itself (Some n) = eq-eqb n n refl
+
+command_itself : (c : CommandValue) → same_command c c ≡ true
+command_itself c = rw (eq-eqb c.class c.class refl, eq-eqb c.ins c.ins refl, eq-eqb c.p1 c.p1 refl, eq-eqb c.p2 c.p2 refl, same_bytes_self c.body, number_itself c.le) refl
+
+verify_by : (b x : Bool) → (b ≡ true → x ≡ true) → elim b [ false ↦ true | true ↦ x ] ≡ true
+verify_by false x h = refl
+verify_by true x h = h refl
+
+is_its_command : (s : Script) (k : Kept) (c : CommandValue) → IsVerification s k c → is_verify_of (turn_operation s k) c ≡ true
+is_its_command s k c v = ap (λ (op : Option Operation). is_verify_of op c) v.operation ∙ ap (λ (x : CommandValue). same_command x (verify_command v.key v.pin)) v.is ∙ command_itself (verify_command v.key v.pin)
+
+unsent : (k : Kept) → Nobody k → (o : Option ℕ) → not (has_verified (begun_in_turn k o)) ≡ true
+unsent k nobody None = refl
+unsent k nobody (Some a) = by_sent (has_verified (begun_of a k.jobs)) (nobody a)
+  where
+    by_sent : (b : Bool) → (b ≡ true → ⊥) → not b ≡ true
+    by_sent true h = absurd (h refl)
+    by_sent false h = refl
+
+sent_right : (s : Script) (k : Kept) (c : CommandValue) → Nobody k → Kind s k c → (c.ins == verify_ins) ≡ true → is_verify_of (turn_operation s k) c && not (has_verified (begun_in_turn k k.turn.actor)) ≡ true
+sent_right s k c nobody kind h = and_from (is_verify_of (turn_operation s k) c) (not (has_verified (begun_in_turn k k.turn.actor))) (is_its_command s k c (kind_verify s k c kind h)) (unsent k nobody k.turn.actor)
+
+line_verify : (s : Script) (k : Kept) (l : Line) → Sends s k → Once s k → is_followed s k l ≡ true → has_right_verify s k l ≡ true
+line_verify s k (line.Exchange a c r) t once h = verify_by (c.ins == verify_ins) (is_verify_of (turn_operation s k) c && not (has_verified (begun_in_turn k k.turn.actor))) (sent_right s k c (none_exchanges s k once a c r h) (exchange_kind s k a c r t h))
+line_verify s k (line.Failed a c d) t once h = verify_by (c.ins == verify_ins) (is_verify_of (turn_operation s k) c && not (has_verified (begun_in_turn k k.turn.actor))) (sent_right s k c (none_fails s k once a c d h) (failed_kind s k a c d t h))
+line_verify s k (line.Turn a) t once h = refl
+line_verify s k (line.Begin a i) t once h = refl
+line_verify s k (line.Reset a) t once h = refl
+line_verify s k (line.ResetFailed a) t once h = refl
+line_verify s k (line.World a e) t once h = refl
+line_verify s k (line.Published n f e v text) t once h = refl
+line_verify s k (line.EpochEnd n e v) t once h = refl
+line_verify s k (line.Refused f n) t once h = refl
+line_verify s k (line.Answered a i given) t once h = refl
+
+-- each VERIFY is its operation's command, and its first
+pub verify_right : (s : Script) (earlier : List Line) (l : Line) → keeps_rules s ≡ true → serves s ≡ true → are_followed s (l ∷ earlier) ≡ true → are_told s (l ∷ earlier) ≡ true → has_right_verify s (kept_of s earlier) l ≡ true
+verify_right s earlier l rules served followed told =
+    let p = and_parts (are_followed s earlier) (is_followed s (kept_of s earlier) l) followed in
+    line_verify s (kept_of s earlier) l (sends_of s earlier served p.0) (once_of s earlier served p.0) p.1
