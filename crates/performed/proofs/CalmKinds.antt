@@ -1,13 +1,12 @@
 -- What a turn of a script that is served sends, by the operation whose turn it is: an UPDATE only an application's command, a MANAGE CHANNEL
 -- only an open or a close, a VERIFY only a verification.
-use Rattle.std.proofs.Common.{◌≡◌, ◌⊎◌, ℕ, ◌==◌, ◌&&◌, not, Bool, true, false, Option, Some, None, List}
+use Rattle.std.proofs.Common.{◌≡◌, ◌⊎◌, ℕ, ◌==◌, ◌&&◌, not, Bool, true, Option, Some, None, List}
 use Rattle.apdu.specs.Values.{CommandValue, ResponseValue}
 use Rattle.apdu.specs.Words.{has_value}
 use Rattle.apdu.specs.Apdu.{is_update_ins, verify_ins, manage_channel_ins, get_response_ins}
 use Rattle.script_reader.specs.declared.types.Script.{Script}
 use Rattle.script_reader.specs.declared.types.Operation.{Operation}
 use Rattle.script_reader.specs.declared.types.Operation.TheVariants as operation
-use Rattle.report.specs.declared.line.Line.{Line}
 use Rattle.report.specs.declared.line.Line.TheVariants as line
 use Rattle.link.specs.declared.chain.Chain.{Chain}
 use Rattle.epoch_cache.specs.Past.{is_insertion}

@@ -1,9 +1,9 @@
 -- Over a script that is served each VERIFY is that of a verification, and it sends no other: behind it the answer is due.
-use Rattle.std.proofs.Common.{◌≡◌, ◌⊎◌, inl, inr, ℕ, zero, suc, ◌+◌, ◌-◌, ◌==◌, ◌&&◌, ◌||◌, not, Bool, true, false, if◌then◌else◌, List, [], ◌∷◌, replicate, length, Option, Some, None, is_some, refl, ap, sym, ◌∙◌, subst, true≢false}
+use Rattle.std.proofs.Common.{◌≡◌, ◌⊎◌, inl, inr, ℕ, zero, suc, ◌+◌, ◌-◌, ◌==◌, ◌&&◌, ◌||◌, not, Bool, true, false, if◌then◌else◌, List, [], ◌∷◌, replicate, Option, Some, None, is_some, refl, ap, sym, ◌∙◌, subst, true≢false}
 use Rattle.std.specs.Prelude.{option_map, nat_lt, nat_le}
 use Rattle.std.proofs.lemmas.Bool.{and_parts, and_from, eq-eqb}
 use Rattle.apdu.specs.Values.{CommandValue, ResponseValue}
-use Rattle.apdu.specs.Words.{has_value, or_else, same_number, same_bytes}
+use Rattle.apdu.specs.Words.{has_value, or_else, same_number}
 use Rattle.apdu.specs.Apdu.{same_command, verify_ins, is_success, wants_more}
 use Rattle.card_effects.proofs.Same.{same_bytes_self}
 use Rattle.card_model.specs.declared.world.WorldEvent.{WorldEvent}
@@ -14,14 +14,12 @@ use Rattle.script_reader.specs.Rules.{keeps_rules}
 use Rattle.report.specs.declared.answer.Answer.{Answer}
 use Rattle.report.specs.declared.line.Line.{Line}
 use Rattle.report.specs.declared.line.Line.TheVariants as line
-use Rattle.link.specs.declared.chain.Chain.{Chain}
 use Rattle.link.specs.declared.chain.Final.{Final}
-use Rattle.link.specs.Commands.{asks_more, chain_count, chain_first, chain_after, final_after, most_exchanges, follow_up}
-use Rattle.epoch_cache.specs.declared.past.Past.{Past}
+use Rattle.link.specs.Commands.{asks_more, chain_count, chain_first, most_exchanges, follow_up}
 use Rattle.editor.specs.declared.editing.Attempt.{Attempt}
 use Rattle.loader.specs.declared.reading.RefusedReading.{RefusedReading}
 use Rattle.refresh_cmd.specs.Values.{ProactiveValue}
-use Rattle.channels.specs.Channels.{on_channel, open_command, close_command}
+use Rattle.channels.specs.Channels.{open_command, close_command}
 use Rattle.rules.specs.declared.due.Due.{Due}
 use Rattle.rules.specs.declared.due.Due.TheVariants.{ResetCard as reset_card, TryEvent as try_event}
 use Rattle.rules.specs.declared.holdings.Handle.{Handle}
@@ -30,7 +28,7 @@ use Rattle.rules.specs.declared.kept.Facts.{Facts}
 use Rattle.rules.specs.declared.kept.Job.{Job}
 use Rattle.rules.specs.declared.kept.Kept.{Kept}
 use Rattle.rules.specs.declared.kept.Stage.{Stage}
-use Rattle.rules.specs.declared.kept.Stage.TheVariants.{Fresh as fresh, Over as over}
+use Rattle.rules.specs.declared.kept.Stage.TheVariants.{Over as over}
 use Rattle.rules.specs.declared.kept.Turn.{Turn}
 use Rattle.rules.specs.declared.kept.Work.{Work}
 use Rattle.rules.specs.declared.kept.Work.TheVariants.{Rests as rests, Refuses as refuses, Lacks as lacks, Sends as sends, Reads as reads, Writes as writes, Resets as resets, Happens as happens}
@@ -46,12 +44,12 @@ use Rattle.performed.specs.Followed.{begins_turn, is_followed, are_followed, is_
 use Rattle.performed.specs.Told.{are_told}
 use Rattle.performed.proofs.MeasureSays.{stands_of}
 use Rattle.performed.proofs.CalmLent.{sent_of, lost_of}
-use Rattle.performed.proofs.CalmKinds.{IsForm, IsRawOn, WorkFits, Sends, Kind, calm, application, opens, gives_up, closes, verifies, IsOfTurn}
+use Rattle.performed.proofs.CalmKinds.{WorkFits, Sends, Kind, calm, application, opens, gives_up, closes, verifies, IsOfTurn}
 use Rattle.performed.proofs.CalmSends.{unlike, never, no_verify, form_ins, raw_other, turn_of, turn_by, exchanged_actor, exchanged_bare, index_kept, refit, work_there, exchange_of_turn, failed_of_turn, exchange_kind, failed_kind, sends_of, beside_stays}
-use Rattle.performed.proofs.ProgressBegins.{Starts, starts}
+use Rattle.performed.proofs.ProgressBegins.{starts}
 use Rattle.performed.proofs.ProgressGoes.{goes_by_answer}
 use Rattle.performed.proofs.ProgressJobs.{changed, mapped}
-use Rattle.performed.proofs.ProgressSound.{IsSoundBegun, IsSoundOption, IsSoundJob, lives_or_ended, sound}
+use Rattle.performed.proofs.ProgressSound.{IsSoundOption, IsSoundJob, lives_or_ended, sound}
 use Rattle.rules.specs.declared.kept.Outcome.{Outcome}
 use Rattle.rules.specs.declared.kept.Outcome.TheVariants as outcome
 use Rattle.rules.specs.Work.{is_finished}
@@ -382,7 +380,7 @@ first_unsent (suc n) zero h = never h
 first_unsent (suc n) (suc i) h = first_unsent n i h
 
 once_of : (s : Script) (lines : List Line) → serves s ≡ true → are_followed s lines ≡ true → Once s (kept_of s lines)
-once_of s [] served h i v = absurd (first_unsent (actor_count s + 1) i v)
+once_of s [] served h = λ i v. absurd (first_unsent (actor_count s + 1) i v)
 once_of s (l ∷ earlier) served h =
     let p = and_parts (are_followed s earlier) (is_followed s (kept_of s earlier) l) h in
     line_once s (kept_of s earlier) (sends_of s earlier served p.0) (sound s earlier p.0) (once_of s earlier served p.0) l p.1

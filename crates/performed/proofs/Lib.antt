@@ -17,6 +17,7 @@ mod CalmLent
 mod JobPlaces
 mod CalmKinds
 mod CalmSends
+mod CalmEdits
 mod CalmVerify
 mod CalmArmed
 mod CalmCards
