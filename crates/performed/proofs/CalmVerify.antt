@@ -273,15 +273,18 @@ module _ (s : Script) (k : Kept) (t : Sends s k) (nobody : Nobody k) (a : ℕ) (
   abbrev now : Option Operation
   now = operation_now s a k.jobs
 
-  -- what is known of each job behind the line
+  -- what is known behind the line of an operation under way, and so of each job
+  abbrev FollowsAt : Kept → ℕ → Option Begun → Type 0
+  FollowsAt new i o = (begun_operation s i o ≡ operation_now s i k.jobs) × (has_verified o ≡ true → HasSent new i (begun_operation s i o))
+
   abbrev Follows : Kept → ℕ → Job → Type 0
-  Follows new i job = (begun_operation s i job.begun ≡ operation_now s i k.jobs) × Spent s new i job
+  Follows new i job = FollowsAt new i job.begun
 
   beside_follows : (l : Line) (new : Kept) (i : ℕ) → Follows new i (job_of i (jobs_beside l k.history.epoch (facts_of s l k) k.selected k.jobs))
   beside_follows l new i = (beside_stays s k l i, λ h. absurd (nobody_beside s k l nobody i h))
 
   -- the job of the line's actor
-  own_follows : (new : Kept) (f : Begun → Begun) → ((b : Begun) → (f b).index ≡ b.index) → ((b : Begun) → (f b).verified ≡ (b.verified || (c.ins == verify_ins))) → ((c.ins == verify_ins) ≡ true → HasSent new a now) → (x : Option Begun) → (begun_operation s a x ≡ now) × (has_verified x ≡ true → HasSent new a (begun_operation s a x)) → (begun_operation s a (option_map f x) ≡ now) × (has_verified (option_map f x) ≡ true → HasSent new a (begun_operation s a (option_map f x)))
+  own_follows : (new : Kept) (f : Begun → Begun) → ((b : Begun) → (f b).index ≡ b.index) → ((b : Begun) → (f b).verified ≡ (b.verified || (c.ins == verify_ins))) → ((c.ins == verify_ins) ≡ true → HasSent new a now) → (x : Option Begun) → FollowsAt new a x → FollowsAt new a (option_map f x)
   own_follows new f index verified here x p =
       let same : begun_operation s a (option_map f x) ≡ begun_operation s a x = index_kept s a f index x in
       (same ∙ p.0, λ h. by_sent same (sent_now f (c.ins == verify_ins) verified x h))
