@@ -7,6 +7,7 @@ mod TurnsStale
 mod TurnsPhase
 mod TurnsLoad
 mod TurnsMove
+mod OperationsKept
 mod LegalWorld
 mod LegalDue
 mod LegalScript
