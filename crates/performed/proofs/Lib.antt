@@ -8,6 +8,7 @@ mod TurnsPhase
 mod TurnsLoad
 mod TurnsMove
 mod OperationsKept
+mod WantedFamilies
 mod LegalWorld
 mod LegalDue
 mod LegalScript
