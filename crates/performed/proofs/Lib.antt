@@ -34,7 +34,11 @@ mod MeasureBegun
 mod MeasureNumbers
 mod Measure
 mod CalmLent
+mod JobPlaces
+mod CalmKinds
 mod CalmSends
+mod CalmEdits
+mod CalmVerify
 mod CalmArmed
 mod CalmCards
 mod CalmRest
