@@ -35,11 +35,11 @@ or_either true false = refl
 or_either false true = refl
 or_either false false = refl
 
-or_later : (a b : Bool) → b ≡ true → (a || b) ≡ true
+pub or_later : (a b : Bool) → b ≡ true → (a || b) ≡ true
 or_later true b h = refl
 or_later false b h = h
 
-or_now : (a b : Bool) → a ≡ true → (a || b) ≡ true
+pub or_now : (a b : Bool) → a ≡ true → (a || b) ≡ true
 or_now true b h = refl
 or_now false b h = absurd (true≢false (sym h))
 
