@@ -44,7 +44,9 @@ use Rattle.performed.specs.Served.{is_served, serves}
 use Rattle.performed.specs.Followed.{is_followed, are_followed}
 use Rattle.performed.proofs.LegalScript.{IsPlain, plain_at, plain_now}
 use Rattle.performed.proofs.MeasureShape.{IsFirstOf, Shape, exchange_next, shape}
-use Rattle.performed.proofs.OperationsKept.{keeps_operations, operation_stays, operation_begun}
+use Rattle.performed.proofs.JobPlaces.{job_count, begun_place}
+use Rattle.performed.proofs.OperationsKept.{keeps_operations, operation_stays}
+use Rattle.performed.proofs.ProgressBegins.{Starts, starts}
 use Rattle.performed.proofs.TurnsPhase.{some_number}
 
 -- ---- turns of another actor
@@ -203,13 +205,11 @@ module _ (s : Script) (rules : keeps_rules s ≡ true) (v : serves s ≡ true) (
     operation = λ h g. ap is_some (operation_stays s k (line.Turn (suc b)) refl (suc b)) ∙ begun_sends k (suc b) (begun_of (suc b) k.jobs) (operation_now s (suc b) k.jobs) h;
   }
 
-  new_calm : (a i b : ℕ) → a ≡ suc b → k.turn.actor ≡ Some (suc b) → IsCalm s (kept_of s (line.Begin a i ∷ earlier)) a
-  new_calm a i b same at = record {
+  new_calm : (a i b : ℕ) → Starts s k a i → k.turn.actor ≡ Some (suc b) → IsCalm s (kept_of s (line.Begin a i ∷ earlier)) a
+  new_calm a i b begins at = record {
     work = begun_calm k a (Some (fresh_begun i k.history)) (operation_at s a i) (plain_at s rules v a i);
     stage = (calm b at).stage;
-    operation = λ h g.
-        let there : is_some (operation_at s a i) ≡ true = begun_sends k a (Some (fresh_begun i k.history)) (operation_at s a i) h in
-        ap is_some (operation_begun s earlier a i there) ∙ there;
+    operation = λ h g. ap is_some (begun_place s k a i begins (job_count s earlier)) ∙ begun_sends k a (Some (fresh_begun i k.history)) (operation_at s a i) h;
   }
 
   exchanged_calm : (a : ℕ) (c : CommandValue) (r : ResponseValue) (b : ℕ) → a ≡ suc b → k.turn.actor ≡ Some (suc b) → IsFirstOf (chain_first c k.chain) k.turn.stage → IsCalm s (kept_of s (line.Exchange a c r ∷ earlier)) (suc b)
@@ -233,7 +233,7 @@ module _ (s : Script) (rules : keeps_rules s ≡ true) (v : serves s ≡ true) (
   calm_line (line.Turn (suc a)) h b at = subst (λ (n : ℕ). IsCalm s (kept_of s (line.Turn (suc a) ∷ earlier)) n) (some_number (suc a) (suc b) at) (marked_calm a)
   calm_line (line.Begin a i) h b at =
       let same : a ≡ suc b = same_actor a (suc b) k.turn.actor at (and_parts (is_turn_of a k.turn) (begins_as i (due s k)) h).0 in
-      subst (λ (n : ℕ). IsCalm s (kept_of s (line.Begin a i ∷ earlier)) n) same (new_calm a i b same at)
+      subst (λ (n : ℕ). IsCalm s (kept_of s (line.Begin a i ∷ earlier)) n) same (new_calm a i b (starts s k i a h) at)
   calm_line (line.Exchange a c r) h b at =
       let actor : k.turn.actor ≡ Some (suc b) = sym (exchanged_actor (operation_now s a k.jobs) (job_of a (kept_of s (line.Exchange a c r ∷ earlier)).jobs) (held_numbers k.history k.handles) (facts_of s (line.Exchange a c r) k) (refused_of k.selected (jobs_beside (line.Exchange a c r) k.history.epoch (facts_of s (line.Exchange a c r) k) k.selected k.jobs) (facts_of s (line.Exchange a c r) k).answered) k.turn (facts_of s (line.Exchange a c r) k).answered refl) ∙ at in
       exchanged_calm a c r b (same_actor a (suc b) k.turn.actor actor (and_parts (is_turn_of a k.turn) (is_sent (due s k) (line.Exchange a c r)) h).0) actor (exchange_next s k shapes.chain a c r h).first

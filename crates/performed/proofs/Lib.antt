@@ -41,4 +41,6 @@ mod CalmEdits
 mod CalmVerify
 mod CalmArmed
 mod CalmCards
+mod CalmShown
+mod LastChange
 mod CalmRest

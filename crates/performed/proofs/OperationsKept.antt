@@ -1,4 +1,4 @@
--- The operation that an actor has begun is the same behind each line, but for one that begins or answers one.
+-- The operation that an actor has begun is the same behind each line that begins and answers none.
 use Rattle.std.proofs.Common.{◌≡◌, ℕ, zero, suc, Bool, true, false, List, ◌∷◌, Option, Some, None, is_some, map, refl, sym, ap, ◌∙◌, true≢false}
 use Rattle.std.specs.Prelude.{option_map, slice_get, unwrap_or}
 use Rattle.std.proofs.lemmas.Option.{slice_get-map}
@@ -60,22 +60,3 @@ module _ (s : Script) (k : Kept) where
   operation_stays (line.Refused f n) h i = beside_stays (line.Refused f n) i
   operation_stays (line.Begin a n) h i = absurd (true≢false (sym h))
   operation_stays (line.Answered a n given) h i = absurd (true≢false (sym h))
-
-some_map : (f : Job → Job) (o : Option Job) → is_some (option_map f o) ≡ is_some o
-some_map f None = refl
-some_map f (Some x) = refl
-
-module _ (s : Script) (earlier : List Line) (a i : ℕ) where
-  abbrev before : Kept
-  before = kept_of s earlier
-
-  begun_by : (o : Option Job) → slice_get (beside s before (line.Begin a i)) a ≡ o → is_some o ≡ true → operation_now s a (kept_of s (line.Begin a i ∷ earlier)).jobs ≡ operation_at s a i
-  begun_by None e h = absurd (true≢false (sym h))
-  begun_by (Some x) e h = ap (λ (job : Job). begun_operation s a job.begun) (changed_here (own s before (line.Begin a i)) (beside s before (line.Begin a i)) a x e)
-
-  -- one that begins is the actor's
-  pub operation_begun : is_some (operation_at s a i) ≡ true → operation_now s a (kept_of s (line.Begin a i ∷ earlier)).jobs ≡ operation_at s a i
-  operation_begun h = begun_by (slice_get (beside s before (line.Begin a i)) a) refl (there (has_job s earlier a i h))
-    where
-      there : is_some (slice_get before.jobs a) ≡ true → is_some (slice_get (beside s before (line.Begin a i)) a) ≡ true
-      there g = ap is_some (slice_get-map (job_beside (line.Begin a i) before.history.epoch (facts_of s (line.Begin a i) before) before.selected) before.jobs a) ∙ some_map (job_beside (line.Begin a i) before.history.epoch (facts_of s (line.Begin a i) before) before.selected) (slice_get before.jobs a) ∙ g
