@@ -1,19 +1,15 @@
 -- The operation that an actor has begun is the same behind each line that begins and answers none.
-use Rattle.std.proofs.Common.{◌≡◌, ℕ, zero, suc, Bool, true, false, List, ◌∷◌, Option, Some, None, is_some, map, refl, sym, ap, ◌∙◌, true≢false}
-use Rattle.std.specs.Prelude.{option_map, slice_get, unwrap_or}
-use Rattle.std.proofs.lemmas.Option.{slice_get-map}
-use Rattle.apdu.specs.Values.{CommandValue, ResponseValue}
+use Rattle.std.proofs.Common.{◌≡◌, ℕ, zero, suc, Bool, true, false, List, Option, Some, None, refl, sym, ap, ◌∙◌, true≢false}
+use Rattle.std.specs.Prelude.{option_map}
 use Rattle.script_reader.specs.declared.types.Script.{Script}
-use Rattle.script_reader.specs.declared.types.Operation.{Operation}
 use Rattle.report.specs.declared.line.Line.{Line}
 use Rattle.report.specs.declared.line.Line.TheVariants as line
 use Rattle.rules.specs.declared.kept.Begun.{Begun}
 use Rattle.rules.specs.declared.kept.Job.{Job}
 use Rattle.rules.specs.declared.kept.Kept.{Kept}
-use Rattle.rules.specs.Kept.{first_job, job_of, begun_operation, operation_at, operation_now, change_at}
-use Rattle.rules.specs.After.{begun_beside, begun_exchanged, begun_failed, begun_with, edit_of, job_beside, jobs_beside, own_job, decision_at, facts_of, kept_after, kept_of}
-use Rattle.performed.proofs.ProgressJobs.{changed, mapped, changed_here}
-use Rattle.performed.proofs.TurnsLoad.{has_job}
+use Rattle.rules.specs.Kept.{job_of, begun_operation, operation_at, operation_now, change_at}
+use Rattle.rules.specs.After.{begun_beside, begun_exchanged, begun_failed, begun_with, edit_of, job_beside, jobs_beside, own_job, decision_at, facts_of, kept_after}
+use Rattle.performed.proofs.ProgressJobs.{changed, mapped}
 
 index_kept : (s : Script) (a : ℕ) (f : Begun → Begun) → ((b : Begun) → (f b).index ≡ b.index) → (o : Option Begun) → begun_operation s a (option_map f o) ≡ begun_operation s a o
 index_kept s a f keeps None = refl

@@ -21,11 +21,11 @@ use Rattle.rules.specs.declared.kept.Turn.{Turn}
 use Rattle.rules.specs.declared.standing.Standing.{Standing}
 use Rattle.rules.specs.History.{lives_in}
 use Rattle.rules.specs.Channels.{held_numbers}
-use Rattle.rules.specs.Kept.{actor_count, operation_at, job_of, begun_of, operation_now, begun_operation, change_at, first_job}
+use Rattle.rules.specs.Kept.{actor_count, operation_at, job_of, begun_of, operation_now, begun_operation, first_job}
 use Rattle.rules.specs.LookingBack.{begins_use, is_wanted}
 use Rattle.rules.specs.Standing.{family_wanted, first_standing, settled_by, unless_settled, refused_in, standing_after, is_stale, first_stale}
 use Rattle.rules.specs.Work.{is_starting, family_of_operation, family_read}
-use Rattle.rules.specs.After.{facts_of, refused_of, family_begun, job_beside, jobs_beside, own_job, decision_at, fresh_begun, family_of_begun, family_at, turn_exchanged, turn_behind, actor_of, jobs_of_actor, kept_of}
+use Rattle.rules.specs.After.{facts_of, refused_of, family_begun, job_beside, jobs_beside, own_job, decision_at, fresh_begun, family_of_begun, turn_exchanged, actor_of, jobs_of_actor, kept_of}
 use Rattle.performed.proofs.ProgressJobs.{changed, mapped}
 use Rattle.performed.proofs.TurnsPhase.{some_number}
 
