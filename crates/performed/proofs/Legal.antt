@@ -27,7 +27,8 @@ use Rattle.performed.specs.Laws.{LinesAreLegal, LinesArePerformed, MarksMove, Ru
 use Rattle.performed.proofs.CalmCards.{channels_right}
 use Rattle.performed.proofs.CalmRest.{responses_right, rest_right}
 use Rattle.performed.proofs.CalmLent.{state_world, state_kept, state_texts}
-use Rattle.performed.proofs.CalmSends.{edits_right, verify_right}
+use Rattle.performed.proofs.CalmEdits.{edits_right}
+use Rattle.performed.proofs.CalmVerify.{verify_right}
 use Rattle.performed.proofs.LegalDue.{does_line}
 use Rattle.performed.proofs.LegalLines.{ends_done}
 use Rattle.performed.proofs.LegalPlaces.{known, turn_right, line_placed, snapshot_right, line_answers, line_fails}

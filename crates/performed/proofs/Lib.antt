@@ -7,6 +7,8 @@ mod TurnsStale
 mod TurnsPhase
 mod TurnsLoad
 mod TurnsMove
+mod OperationsKept
+mod WantedFamilies
 mod LegalWorld
 mod LegalDue
 mod LegalScript
@@ -39,4 +41,6 @@ mod CalmEdits
 mod CalmVerify
 mod CalmArmed
 mod CalmCards
+mod CalmShown
+mod LastChange
 mod CalmRest
