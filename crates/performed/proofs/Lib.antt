@@ -15,6 +15,8 @@ mod Measure
 mod CalmLent
 mod CalmSends
 mod CalmArmed
+mod CalmManage
+mod CalmHeld
 mod CalmCards
 mod CalmRest
 mod ProgressActors
