@@ -207,3 +207,35 @@ module _ (history : Past) where
             and_true : (x : Bool) → (x && true) ≡ x
             and_true true = refl
             and_true false = refl
+
+    leaves_rest : (b : Bool) (x : Handle) (hs : List Handle) (h : Handle) (n : ℕ) → is_living_handle history x ≡ b → (b ≡ true → (x.number == h.number) ≡ false) → is_one_of n (Held (Without hs)) ≡ leaves h n hs → is_one_of n (Held (x ∷ Without hs)) ≡ leaves h n (x ∷ hs)
+    leaves_rest true x hs h n q u e =
+        ap (is_one_of n) (held_by true x (Without hs) q)
+        ∙ ap (λ (b : Bool). (x.number == n) || b) e
+        ∙ both (x.number == n) (is_one_of n (Held hs)) (n == h.number) (other (u refl))
+        ∙ ap (λ (b : Bool). b && not (n == h.number)) (sym (ap (is_one_of n) (held_by true x hs q)))
+      where
+        other : (x.number == h.number) ≡ false → (x.number == n) ≡ true → (n == h.number) ≡ false
+        other v w = grind arith
+
+        both : (a b c : Bool) → (a ≡ true → c ≡ false) → (a || (b && not c)) ≡ ((a || b) && not c)
+        both true b c f = rw (f refl) refl
+        both false b c f = refl
+    leaves_rest false x hs h n q u e =
+        ap (is_one_of n) (held_by false x (Without hs) q) ∙ e ∙ ap (λ (b : Bool). b && not (n == h.number)) (sym (ap (is_one_of n) (held_by false x hs q)))
+
+    unlike_first : (b : Bool) (x : Handle) (hs : List Handle) (h : Handle) → is_living_handle history x ≡ b → AllApart (Held (x ∷ hs)) → is_one_of h.number (Held hs) ≡ true → b ≡ true → (x.number == h.number) ≡ false
+    unlike_first true x hs h q t there e = by_same (x.number == h.number) refl
+      where
+        by_same : (d : Bool) → (x.number == h.number) ≡ d → d ≡ false
+        by_same false s = refl
+        by_same true s = absurd (true≢false (sym there ∙ subst (λ (m : ℕ). is_one_of m (Held hs) ≡ false) (eqb-true x.number h.number s) (subst AllApart (held_by true x hs q) t).0))
+    unlike_first false x hs h q t there e = absurd (true≢false (sym e))
+
+    leaves_by : (b : Bool) (x : Handle) (hs : List Handle) (h : Handle) (n : ℕ) → is_handle_of a r x ≡ b → AreApart (x ∷ hs) → AllApart (Held (x ∷ hs)) → (if b then Some x else handle_of a r hs) ≡ Some h → is_living_handle history h ≡ true → (handle_of a r hs ≡ Some h → is_one_of n (Held (Without hs)) ≡ leaves h n hs) → is_one_of n (Held (if not b then x ∷ Without hs else Without hs)) ≡ leaves h n (x ∷ hs)
+    leaves_by true x hs h n q t u f l later = ap (λ (ys : List Handle). is_one_of n (Held ys)) (without_only x hs q t) ∙ out_first x hs h n (let same : x ≡ h = cc in same) l u
+    leaves_by false x hs h n q t u f l later = leaves_rest (is_living_handle history x) x hs h n refl (unlike_first (is_living_handle history x) x hs h refl u (living_in hs h f l)) (later f)
+
+    pub number_leaves : (hs : List Handle) (h : Handle) (n : ℕ) → AreApart hs → AllApart (Held hs) → handle_of a r hs ≡ Some h → is_living_handle history h ≡ true → is_one_of n (Held (Without hs)) ≡ leaves h n hs
+    number_leaves [] h n t u e l = absurd (cc)
+    number_leaves (x ∷ hs) h n t u e l = leaves_by (is_handle_of a r x) x hs h n refl t u e l (λ f. number_leaves hs h n t.1 (rest_apart (is_living_handle history x) x hs refl u) f l)

@@ -17,6 +17,8 @@ mod CalmSends
 mod CalmArmed
 mod CalmManage
 mod CalmHeld
+mod CalmMatch
+mod CalmPhase
 mod CalmCards
 mod CalmRest
 mod ProgressActors
