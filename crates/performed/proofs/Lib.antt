@@ -19,6 +19,7 @@ mod CalmManage
 mod CalmHeld
 mod CalmMatch
 mod CalmPhase
+mod CalmExchange
 mod CalmCards
 mod CalmRest
 mod ProgressActors
