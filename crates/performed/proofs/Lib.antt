@@ -20,6 +20,7 @@ mod CalmHeld
 mod CalmMatch
 mod CalmPhase
 mod CalmExchange
+mod CalmTurn
 mod CalmCards
 mod CalmRest
 mod ProgressActors
