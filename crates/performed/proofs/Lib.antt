@@ -21,6 +21,7 @@ mod CalmMatch
 mod CalmPhase
 mod CalmExchange
 mod CalmTurn
+mod CalmOps
 mod CalmCards
 mod CalmRest
 mod ProgressActors
