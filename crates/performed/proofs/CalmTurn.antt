@@ -60,12 +60,12 @@ pub record CloseState (turn : Turn) (chain : Option Chain) (ns : List ℕ) (k : 
 -- ---- the command that is due
 
 module _ (k : Kept) where
-  due_fresh : (d : CommandValue) (a : ℕ) → k.chain ≡ None → k.turn.stage ≡ fresh → k.turn.work ≡ sends d → k.turn.actor ≡ Some a → due_command k ≡ Some d
+  pub due_fresh : (d : CommandValue) (a : ℕ) → k.chain ≡ None → k.turn.stage ≡ fresh → k.turn.work ≡ sends d → k.turn.actor ≡ Some a → due_command k ≡ Some d
   due_fresh d a chain stage work actor =
       ap (command_by_chain k) chain ∙ ap (command_by_stage k) stage
       ∙ ap (λ (w : Work). first_of_turn k.selected k.jobs w k.turn.actor) work ∙ ap (first_of_turn k.selected k.jobs (sends d)) actor
 
-  due_next : (d : CommandValue) → k.chain ≡ None → k.turn.stage ≡ next d → due_command k ≡ Some d
+  pub due_next : (d : CommandValue) → k.chain ≡ None → k.turn.stage ≡ next d → due_command k ≡ Some d
   due_next d chain stage = ap (command_by_chain k) chain ∙ ap (command_by_stage k) stage
 
   due_over : k.chain ≡ None → k.turn.stage ≡ over → due_command k ≡ None

@@ -22,6 +22,8 @@ mod CalmPhase
 mod CalmExchange
 mod CalmTurn
 mod CalmOps
+mod CalmState
+mod CalmKnown
 mod CalmCards
 mod CalmRest
 mod ProgressActors
