@@ -84,7 +84,7 @@ module _ (history : Past) where
   abbrev Held : List Handle → List ℕ
   Held hs = held_numbers history hs
 
-  held_by : (b : Bool) (x : Handle) (hs : List Handle) → is_living_handle history x ≡ b → Held (x ∷ hs) ≡ (if b then x.number ∷ Held hs else Held hs)
+  pub held_by : (b : Bool) (x : Handle) (hs : List Handle) → is_living_handle history x ≡ b → Held (x ∷ hs) ≡ (if b then x.number ∷ Held hs else Held hs)
   held_by true x hs e = ap (λ (b : Bool). map (λ (h : Handle). h.number) (if b then x ∷ filter (is_living_handle history) hs else filter (is_living_handle history) hs)) e
   held_by false x hs e = ap (λ (b : Bool). map (λ (h : Handle). h.number) (if b then x ∷ filter (is_living_handle history) hs else filter (is_living_handle history) hs)) e
 

@@ -130,7 +130,7 @@ module _ (s : Script) (k : Kept) (g : Given s k) (known : Handles k.history.epoc
   given_known (line.Answered a i given) h = place_known k.history.epoch k.handles known a (operation_at s a i) given (λ handle n aid e q. g.free a i handle n aid (subst (λ (x : Answer). is_followed s k (line.Answered a i x) ≡ true) q h) e)
   given_known l h = known
 
-  behind_by : (b : Bool) (l : Line) (event : ℕ) → is_followed s k l ≡ true → Handles k.history.epoch (if b then ended_handles k.history.epoch event k.handles else handles_given s l k.history.epoch k.handles)
+  pub behind_by : (b : Bool) (l : Line) (event : ℕ) → is_followed s k l ≡ true → Handles k.history.epoch (if b then ended_handles k.history.epoch event k.handles else handles_given s l k.history.epoch k.handles)
   behind_by true l event h = ended_known k.history.epoch k.handles known k.history.epoch event
   behind_by false l event h = given_known l h
 
@@ -173,7 +173,7 @@ op_calls k a b (operation.OpenChannel handle aid) h = if_calls (lives_in k.histo
 op_calls k a b (operation.Close handle) h = closes_calls (living_handle k (handle_of a handle k.handles))
 op_calls k a b op h = absurd (true≢false (sym h))
 
-begun_calls : (k : Kept) (a : ℕ) (b : Option Begun) (op : Option Operation) → is_channel_op op ≡ true → calls (decision_of_begun k a b op).work ≡ true
+pub begun_calls : (k : Kept) (a : ℕ) (b : Option Begun) (op : Option Operation) → is_channel_op op ≡ true → calls (decision_of_begun k a b op).work ≡ true
 begun_calls k a b None h = absurd (true≢false (sym h))
 begun_calls k a None (Some op) h = refl
 begun_calls k a (Some b) (Some op) h = op_calls k a b op h
@@ -218,10 +218,10 @@ pub led_actor : (op : Option Operation) (job : Job) (held : List ℕ) (refresh :
 led_actor op job held refresh refused t None = refl
 led_actor op job held refresh refused t (Some f) = refl
 
-led_bare : (op : Option Operation) (job : Job) (held : List ℕ) (refresh : Option ProactiveValue) (refused : Option RefusedReading) (t : Turn) (o : Option Final) → (turn_led op job held refresh refused t o).bare ≡ false
+pub led_bare : (op : Option Operation) (job : Job) (held : List ℕ) (refresh : Option ProactiveValue) (refused : Option RefusedReading) (t : Turn) (o : Option Final) → (turn_led op job held refresh refused t o).bare ≡ false
 led_bare op job held refresh refused t None = refl
 led_bare op job held refresh refused t (Some f) = refl
 
-led_plain : (op : Option Operation) (job : Job) (held : List ℕ) (refresh : Option ProactiveValue) (refused : Option RefusedReading) (t : Turn) (o : Option Final) → is_channel_op op ≡ true → Plain t → Plain (turn_led op job held refresh refused t o)
+pub led_plain : (op : Option Operation) (job : Job) (held : List ℕ) (refresh : Option ProactiveValue) (refused : Option RefusedReading) (t : Turn) (o : Option Final) → is_channel_op op ≡ true → Plain t → Plain (turn_led op job held refresh refused t o)
 led_plain op job held refresh refused t None h p = record { work = p.work; stage = p.stage }
 led_plain op job held refresh refused t (Some f) h p = record { work = p.work; stage = no_reset_after t.work op (opened_behind held f t.opened) job refresh f h p.work }

@@ -24,6 +24,7 @@ mod CalmTurn
 mod CalmOps
 mod CalmState
 mod CalmKnown
+mod CalmBehind
 mod CalmCards
 mod CalmRest
 mod ProgressActors
