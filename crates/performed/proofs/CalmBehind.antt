@@ -1,5 +1,5 @@
 -- What is known of handles and turns behind every line, and how a state goes over to the next.
-use Rattle.std.proofs.Common.{◌≡◌, ◌≤◌, inl, inr, ℕ, zero, suc, ◌+◌, ◌==◌, ◌&&◌, ◌||◌, not, Bool, true, false, if◌then◌else◌, Option, Some, None, List, [], ◌∷◌, ◌++◌, refl, ap, sym, ◌∙◌, subst, arith, true≢false}
+use Rattle.std.proofs.Common.{◌≡◌, inl, inr, ℕ, zero, suc, ◌&&◌, Bool, true, false, Option, Some, None, List, [], ◌∷◌, refl, ap, sym, ◌∙◌, subst, true≢false}
 use Rattle.std.proofs.lemmas.Bool.{and_parts, eqb-true}
 use Rattle.apdu.specs.Values.{CommandValue, ResponseValue}
 use Rattle.apdu.specs.Words.{same_number}
@@ -17,20 +17,20 @@ use Rattle.rules.specs.declared.kept.Begun.{Begun}
 use Rattle.rules.specs.declared.kept.Facts.{Facts}
 use Rattle.rules.specs.declared.kept.Job.{Job}
 use Rattle.rules.specs.declared.kept.Kept.{Kept}
-use Rattle.rules.specs.declared.kept.Stage.TheVariants.{Fresh as fresh, Next as next, Resetting as resetting, Over as over}
+use Rattle.rules.specs.declared.kept.Stage.TheVariants.{Fresh as fresh, Next as next, Over as over}
 use Rattle.rules.specs.declared.kept.Turn.{Turn}
-use Rattle.rules.specs.Channels.{handle_of, is_living_handle, held_numbers}
+use Rattle.rules.specs.Channels.{handle_of, is_living_handle}
 use Rattle.rules.specs.Kept.{job_of, begun_of, begun_operation, operation_at, operation_now}
 use Rattle.rules.specs.Due.{due, due_command, command_by_chain}
-use Rattle.rules.specs.After.{decision_of_begun, fresh_begun, jobs_beside, jobs_of_actor, refused_of, decision_at, facts_of, kept_after, kept_of}
+use Rattle.rules.specs.After.{fresh_begun, jobs_beside, jobs_of_actor, refused_of, decision_at, facts_of, kept_after, kept_of}
 use Rattle.rules.specs.Rules.{is_turn_of, is_begun_at, operation_in_turn, turn_operation}
 use Rattle.rules.specs.Performed.{is_sent, begins_as}
 use Rattle.performed.specs.Followed.{is_followed, are_followed, is_given_or_refused}
 use Rattle.performed.proofs.TurnsSays.{BeginsNow, begins_now}
 use Rattle.performed.proofs.CalmOps.{keeps_begun, same_operation, begun_now, answered_now}
-use Rattle.performed.proofs.CalmPhase.{IsStill, NotOpened, SelectChain, OpenPhase, open_rests, open_ready, open_selects, open_gives_up, open_done, open_failed, IsFree, ClosePhase, close_rests, close_ready, close_done}
+use Rattle.performed.proofs.CalmPhase.{IsStill, NotOpened, OpenPhase, open_rests, open_ready, open_selects, open_gives_up, open_done, open_failed, IsFree, ClosePhase, close_rests, close_ready, close_done}
 use Rattle.performed.proofs.CalmExchange.{Right}
-use Rattle.performed.proofs.CalmTurn.{held_in, OpenState, CloseState, due_fresh, due_next}
+use Rattle.performed.proofs.CalmTurn.{held_in, due_fresh, due_next}
 use Rattle.performed.proofs.CalmState.{StateOf}
 use Rattle.performed.proofs.CalmKnown.{is_channel_op, Given, handles_known, Plain, Known, begun_calls, led_actor, led_bare, led_plain, goes_to_reset}
 

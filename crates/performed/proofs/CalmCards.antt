@@ -5,7 +5,7 @@ use Rattle.std.specs.Prelude.{slice_get, nat_lt, nat_le, option_and_then, is_som
 use Rattle.std.proofs.lemmas.Bool.{and_parts, eqb-true, not-true}
 use Rattle.apdu.specs.Values.{CommandValue, ResponseValue}
 use Rattle.apdu.specs.Words.{is_one_of, has_value}
-use Rattle.apdu.specs.Apdu.{same_command, same_response, manage_channel_ins}
+use Rattle.apdu.specs.Apdu.{same_command, same_response}
 use Rattle.card_model.specs.declared.world.CardState.{CardState}
 use Rattle.card_model.specs.declared.world.World.{World}
 use Rattle.card_model.specs.declared.world.WorldEvent.{WorldEvent}
@@ -37,23 +37,23 @@ use Rattle.rules.specs.declared.kept.Stage.TheVariants.{Fresh as fresh, Next as 
 use Rattle.rules.specs.declared.kept.Turn.{Turn}
 use Rattle.rules.specs.declared.kept.Work.{Work}
 use Rattle.rules.specs.declared.kept.Work.TheVariants.{Rests as rests, Sends as sends, Reads as reads, Writes as writes, Refuses as refuses, Lacks as lacks, Resets as resets, Happens as happens}
-use Rattle.rules.specs.Channels.{handle_of, is_living_handle, held_numbers, without_handle, handles_after}
+use Rattle.rules.specs.Channels.{handle_of, held_numbers, without_handle, handles_after}
 use Rattle.rules.specs.Kept.{actor_count, job_of, begun_of, begun_operation, operation_at, operation_now}
 use Rattle.rules.specs.After.{decision_of_begun, fresh_begun, jobs_beside, jobs_of_actor, refused_of, decision_at, facts_of, kept_after, kept_of}
-use Rattle.rules.specs.Due.{event_of, event_by_stage, tried_event, reset_by_stage, is_reset_due, due_command, due_answer, due}
+use Rattle.rules.specs.Due.{event_by_stage, reset_by_stage, due_command, due_answer, due}
 use Rattle.rules.specs.Performed.{ends_turn, begins_as, is_sent, is_reset, is_published}
-use Rattle.rules.specs.Rules.{is_failing, next_fault, open_numbers, are_channels_right, is_turn_of, is_begun_at, operation_in_turn, turn_operation, is_response_right, same_event, same_answer, has_right_response, has_right_fault}
+use Rattle.rules.specs.Rules.{is_failing, next_fault, open_numbers, are_channels_right, is_turn_of, is_begun_at, operation_in_turn, turn_operation, is_response_right, same_answer, has_right_response, has_right_fault}
 use Rattle.rules.specs.Work.{is_finished}
 use Rattle.rules.specs.State.{world_after, world_of}
-use Rattle.performed.specs.Followed.{begins_turn, is_given_or_refused, is_tried, is_slot_answer, is_followed, are_followed}
+use Rattle.performed.specs.Followed.{is_given_or_refused, is_tried, is_followed, are_followed}
 use Rattle.performed.specs.Told.{is_told, are_told}
 use Rattle.performed.proofs.TurnsSays.{IsDone, turn_done, says_of, BeginsNow, begins_now}
 use Rattle.performed.proofs.CalmHeld.{held_by}
 use Rattle.performed.proofs.CalmLent.{get_set, steps_card, sent_of}
-use Rattle.performed.proofs.CalmMatch.{Matches, same_by_match}
+use Rattle.performed.proofs.CalmMatch.{same_by_match}
 use Rattle.performed.proofs.CalmPhase.{ClosePhase, same_response_is}
 use Rattle.performed.proofs.CalmExchange.{Right, others_keep}
-use Rattle.performed.proofs.CalmTurn.{held_in, OpenState, CloseState, led_turn, led_chain, asks, open_goes, close_goes}
+use Rattle.performed.proofs.CalmTurn.{held_in, OpenState, led_turn, led_chain, asks, open_goes, close_goes}
 use Rattle.performed.proofs.CalmOps.{keeps_begun, same_operation, begun_now, answered_now, comes_first, unsent}
 use Rattle.performed.proofs.CalmState.{StateOf, fresh_state, open_settled, open_told, close_told, close_settled, opened_right}
 use Rattle.performed.proofs.CalmKnown.{is_channel_op, Given, AllSince, Handles, behind_by, calls, goes_to_reset, Plain, Known}

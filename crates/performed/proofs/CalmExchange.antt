@@ -1,17 +1,16 @@
 -- What an exchange of an open or a close does to the card's numbers, and to the turn.
-use Rattle.std.proofs.Common.{◌≡◌, ◌≤◌, inl, inr, ℕ, zero, suc, ◌+◌, ◌==◌, ◌&&◌, ◌||◌, not, Bool, true, false, if◌then◌else◌, Option, Some, None, List, [], ◌∷◌, ◌++◌, refl, ap, sym, ◌∙◌, subst, arith, true≢false}
-use Rattle.std.specs.Prelude.{nat_lt, nat_le}
-use Rattle.std.proofs.lemmas.Bool.{and_parts, and_from, eqb-true, eq-eqb}
+use Rattle.std.proofs.Common.{◌≡◌, ◌≤◌, inl, inr, ℕ, ◌==◌, ◌||◌, not, Bool, true, false, if◌then◌else◌, Option, Some, None, List, ◌∷◌, ◌++◌, refl, ap, sym, ◌∙◌, subst, arith, true≢false}
+use Rattle.std.proofs.lemmas.Bool.{and_from, eqb-true, eq-eqb}
 use Rattle.apdu.specs.Values.{CommandValue, ResponseValue}
-use Rattle.apdu.specs.Words.{is_one_of, is_between, has_value}
-use Rattle.apdu.specs.Apdu.{same_command, select_ins, get_response_ins, manage_channel_ins, verify_ins, is_success, has_more, wants_more}
+use Rattle.apdu.specs.Words.{is_one_of, is_between}
+use Rattle.apdu.specs.Apdu.{manage_channel_ins, is_success, wants_more}
 use Rattle.card_model.specs.declared.world.Change.{Change}
 use Rattle.card_model.specs.declared.world.CardState.{CardState}
 use Rattle.card_model.specs.Step.{on_card}
-use Rattle.card_effects.specs.Numbers.{numbers, AllApart, KeepsNumbers, AddsNumber, DropsNumber, ChangesNumbers}
+use Rattle.card_effects.specs.Numbers.{numbers, AllApart, KeepsNumbers, AddsNumber, ChangesNumbers}
 use Rattle.card_effects.proofs.Numbers.{numbers_effect}
 use Rattle.card_effects.proofs.Effects.{effect}
-use Rattle.channels.specs.Channels.{open_command, close_command, select_application, is_opening, new_number, opened_number}
+use Rattle.channels.specs.Channels.{open_command, close_command, new_number, opened_number}
 use Rattle.link.specs.declared.chain.Final.{Final}
 use Rattle.performed.proofs.CalmManage.{IsOpenAnswer, open_answer, close_answer}
 use Rattle.performed.proofs.CalmMatch.{Matches, Dropped, matches_added, matches_dropped, has_basic, has_wanted, not_wanted}

@@ -1,14 +1,12 @@
 -- The numbers of the channels that are held, where a handle is given or taken.
-use Rattle.std.proofs.Common.{◌≡◌, ℕ, zero, suc, ◌+◌, ◌==◌, ◌&&◌, ◌||◌, not, Bool, true, false, if◌then◌else◌, Option, Some, None, List, [], ◌∷◌, ◌++◌, map, refl, ap, sym, ◌∙◌, subst, arith, true≢false}
-use Rattle.std.specs.Prelude.{filter, find, nat_le, is_some, is_none}
-use Rattle.std.specs.List.{list_all}
-use Rattle.std.proofs.lemmas.Bool.{and_parts, and_from, or_parts, eqb-true}
+use Rattle.std.proofs.Common.{◌≡◌, ℕ, ◌==◌, ◌&&◌, ◌||◌, not, Bool, true, false, if◌then◌else◌, Some, None, List, [], ◌∷◌, ◌++◌, map, refl, ap, sym, ◌∙◌, subst, arith, true≢false}
+use Rattle.std.specs.Prelude.{filter, find}
+use Rattle.std.proofs.lemmas.Bool.{and_parts, or_parts, eqb-true}
 use Rattle.apdu.specs.Words.{is_one_of}
 use Rattle.card_effects.specs.Numbers.{AllApart}
 use Rattle.epoch_cache.specs.declared.past.Past.{Past}
 use Rattle.rules.specs.declared.holdings.Handle.{Handle}
-use Rattle.rules.specs.History.{is_living}
-use Rattle.rules.specs.Channels.{is_handle_of, handle_of, is_living_handle, held_numbers, without_handle, with_handle, ended_handle, ended_handles}
+use Rattle.rules.specs.Channels.{is_handle_of, handle_of, is_living_handle, held_numbers, without_handle}
 
 -- ---- one handle for a reference
 

@@ -1,12 +1,9 @@
 -- What is known of handles and turns behind each line, be an epoch living or not.
-use Rattle.std.proofs.Common.{◌≡◌, ◌≤◌, inl, inr, ℕ, zero, suc, ◌+◌, ◌==◌, ◌&&◌, ◌||◌, not, Bool, true, false, if◌then◌else◌, Option, Some, None, List, [], ◌∷◌, ◌++◌, map, refl, ap, sym, ◌∙◌, subst, arith, true≢false}
-use Rattle.std.specs.Prelude.{option_map, filter, find}
-use Rattle.std.proofs.lemmas.Bool.{and_parts, eqb-true}
+use Rattle.std.proofs.Common.{◌≡◌, ◌≤◌, ℕ, ◌==◌, ◌&&◌, not, Bool, true, false, if◌then◌else◌, Option, Some, None, List, [], ◌∷◌, ◌++◌, map, refl, ap, sym, subst, arith, true≢false}
+use Rattle.std.specs.Prelude.{option_map, filter}
 use Rattle.apdu.specs.Values.{CommandValue, ResponseValue}
-use Rattle.apdu.specs.Words.{same_number}
 use Rattle.apdu.specs.Apdu.{manage_channel_ins, select_ins, is_success}
 use Rattle.card_model.specs.declared.world.WorldEvent.{WorldEvent}
-use Rattle.card_model.specs.declared.world.WorldEvent.TheVariants.{Arm, Out, Insert}
 use Rattle.refresh_cmd.specs.Values.{ProactiveValue}
 use Rattle.script_reader.specs.declared.types.Script.{Script}
 use Rattle.script_reader.specs.declared.types.Operation.{Operation}
@@ -21,24 +18,21 @@ use Rattle.epoch_cache.specs.Past.{is_insertion, counted}
 use Rattle.loader.specs.declared.reading.RefusedReading.{RefusedReading}
 use Rattle.rules.specs.declared.holdings.Handle.{Handle}
 use Rattle.rules.specs.declared.kept.Begun.{Begun}
-use Rattle.rules.specs.declared.kept.Facts.{Facts}
 use Rattle.rules.specs.declared.kept.Job.{Job}
 use Rattle.rules.specs.declared.kept.Kept.{Kept}
 use Rattle.rules.specs.declared.kept.Stage.{Stage}
-use Rattle.rules.specs.declared.kept.Stage.TheVariants.{Fresh as fresh, Next as next, Resetting as resetting, Over as over}
+use Rattle.rules.specs.declared.kept.Stage.TheVariants.{Fresh as fresh, Resetting as resetting, Over as over}
 use Rattle.rules.specs.declared.kept.Turn.{Turn}
 use Rattle.rules.specs.declared.kept.Work.{Work}
 use Rattle.rules.specs.declared.kept.Work.TheVariants.{Rests as rests, Sends as sends, Reads as reads, Writes as writes, Refuses as refuses, Lacks as lacks, Resets as resets, Happens as happens}
 use Rattle.rules.specs.History.{begins_epoch, lives_in}
-use Rattle.rules.specs.Channels.{is_handle_of, handle_of, is_living_handle, without_handle, with_handle, handles_after, ended_handle, ended_handles}
-use Rattle.rules.specs.Kept.{job_of, begun_of, begun_operation, operation_at, operation_now}
+use Rattle.rules.specs.Channels.{is_handle_of, handle_of, handles_after, ended_handle, ended_handles}
+use Rattle.rules.specs.Kept.{operation_at}
 use Rattle.rules.specs.Work.{living_handle, sends_close, work_of_operation}
-use Rattle.rules.specs.After.{next_or_over, stage_of_open, stage_of_sent, stage_after, opened_behind, turn_answered, decision_of_begun, fresh_begun, handles_given, handles_behind, jobs_beside, jobs_of_actor, refused_of, decision_at, facts_of, kept_after, kept_of}
-use Rattle.rules.specs.Rules.{is_turn_of, operation_in_turn, turn_operation}
+use Rattle.rules.specs.After.{next_or_over, stage_of_open, stage_of_sent, stage_after, opened_behind, turn_answered, decision_of_begun, handles_given, handles_behind, facts_of, kept_after}
+use Rattle.rules.specs.Rules.{turn_operation}
 use Rattle.performed.specs.Followed.{is_followed}
-use Rattle.performed.proofs.TurnsSays.{BeginsNow, begins_now}
 use Rattle.performed.proofs.CalmHeld.{AreApart, none_left, apart_of_fewer, apart_added, apart_mapped}
-use Rattle.performed.proofs.CalmOps.{keeps_begun, same_operation, begun_now, answered_now}
 use Rattle.performed.proofs.CalmState.{OpensAlive}
 
 abbrev pub is_channel_op : Option Operation → Bool

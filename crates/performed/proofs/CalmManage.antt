@@ -1,20 +1,20 @@
 -- What a card answers to the MANAGE CHANNEL of an open, and to that of a close.
-use Rattle.std.proofs.Common.{◌≡◌, ◌≤◌, ◌<◌, ℕ, zero, suc, ◌+◌, ◌==◌, ◌&&◌, ◌||◌, not, Bool, true, false, if◌then◌else◌, Option, Some, None, List, [], ◌∷◌, map, length, inl, inr, ◌++◌, refl, ap, sym, ◌∙◌, subst, arith, true≢false, get_or}
+use Rattle.std.proofs.Common.{◌≡◌, ◌≤◌, ◌<◌, ℕ, zero, suc, ◌+◌, ◌==◌, ◌||◌, not, Bool, true, false, if◌then◌else◌, Option, Some, None, List, [], ◌∷◌, map, length, inl, inr, ◌++◌, refl, ap, sym, ◌∙◌, subst, arith, true≢false, get_or}
 use Rattle.std.specs.Prelude.{slice_get, nat_lt, position, find, is_some, filter, option_map}
 use Rattle.std.proofs.lemmas.Bool.{eqb-true, eq-eqb, ltb-true, cases_Bool}
 use Rattle.std.specs.List.{remove}
 use Rattle.std.proofs.lemmas.List.Quantifiers.{position-Some}
 use Rattle.std.proofs.lemmas.Option.{slice_get-get_or, slice_get-map}
-use Rattle.apdu.specs.Values.{CommandValue, ResponseValue}
+use Rattle.apdu.specs.Values.{ResponseValue}
 use Rattle.apdu.specs.Words.{is_one_of}
-use Rattle.apdu.specs.Apdu.{is_success, has_more, wants_other_le, wants_more}
+use Rattle.apdu.specs.Apdu.{is_success, wants_more}
 use Rattle.apdu.specs.declared.class.ClassKind.TheVariants.{Plain}
 use Rattle.card_model.specs.declared.world.ChannelState.{ChannelState}
 use Rattle.card_model.specs.declared.world.Change.{Change}
 use Rattle.card_model.specs.declared.world.CardState.{CardState}
 use Rattle.card_model.specs.Card.{has_number, channel_place, fresh_channel}
 use Rattle.card_model.specs.Answers.{refuses, success_word, with_waiting}
-use Rattle.card_model.specs.Channels.{is_open, first_closed, free_number, open_number, close_place, close_channel, manage_channel_row}
+use Rattle.card_model.specs.Channels.{is_open, first_closed, free_number, open_number, close_place, manage_channel_row}
 use Rattle.card_model.specs.Step.{on_card, on_place, on_channel}
 use Rattle.card_effects.specs.Numbers.{number_of, numbers}
 use Rattle.card_effects.proofs.Effects.{none_found}

@@ -1,9 +1,8 @@
 -- A card's numbers, and those that are wanted beside the basic one.
-use Rattle.std.proofs.Common.{◌≡◌, ℕ, ◌==◌, ◌&&◌, ◌||◌, not, Bool, true, false, List, [], ◌∷◌, ◌++◌, refl, ap, sym, ◌∙◌, subst, arith, true≢false}
+use Rattle.std.proofs.Common.{◌≡◌, ℕ, ◌==◌, ◌&&◌, ◌||◌, Bool, true, false, List, [], ◌∷◌, ◌++◌, refl, ap, sym, ◌∙◌, subst, arith}
 use Rattle.std.specs.List.{list_all}
 use Rattle.std.proofs.lemmas.Bool.{and_from, or_parts, eqb-true}
 use Rattle.apdu.specs.Words.{is_one_of}
-use Rattle.card_effects.specs.Numbers.{AllApart}
 use Rattle.channels.specs.Channels.{same_channels}
 
 -- the card's numbers are the basic one and these

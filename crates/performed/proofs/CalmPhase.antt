@@ -1,9 +1,9 @@
 -- How far an open and a close have come in their turn, and what an exchange of each does.
-use Rattle.std.proofs.Common.{◌≡◌, ◌≤◌, inl, inr, ℕ, zero, suc, ◌+◌, ◌==◌, ◌&&◌, ◌||◌, not, Bool, true, false, if◌then◌else◌, Option, Some, None, List, [], ◌∷◌, ◌++◌, refl, ap, sym, ◌∙◌, subst, arith, true≢false}
+use Rattle.std.proofs.Common.{◌≡◌, ℕ, ◌==◌, ◌&&◌, not, Bool, true, false, if◌then◌else◌, Option, Some, None, List, [], ◌∷◌, refl, ap, sym, ◌∙◌, subst, true≢false}
 use Rattle.std.specs.Prelude.{option_map}
-use Rattle.std.proofs.lemmas.Bool.{and_parts, and_from, eqb-true, eq-eqb}
+use Rattle.std.proofs.lemmas.Bool.{and_parts, eqb-true}
 use Rattle.apdu.specs.Values.{CommandValue, ResponseValue}
-use Rattle.apdu.specs.Words.{is_one_of, is_between, same_bytes, same_number, or_else}
+use Rattle.apdu.specs.Words.{same_bytes, same_number, or_else}
 use Rattle.apdu.specs.Apdu.{same_command, same_response, select_ins, manage_channel_ins, is_success, wants_more}
 use Rattle.refresh_cmd.specs.Values.{ProactiveValue}
 use Rattle.card_effects.proofs.Same.{same_bytes_is}
@@ -15,7 +15,7 @@ use Rattle.link.specs.Commands.{is_refused}
 use Rattle.loader.specs.Reading.{has_bad_fcp}
 use Rattle.loader.specs.declared.reading.RefusedReading.{RefusedReading}
 use Rattle.epoch_cache.specs.declared.past.Past.{Past}
-use Rattle.channels.specs.Channels.{open_command, close_command, select_application, is_opening, new_number, opened_number}
+use Rattle.channels.specs.Channels.{open_command, close_command, select_application, is_opening, opened_number}
 use Rattle.rules.specs.declared.holdings.Handle.{Handle}
 use Rattle.rules.specs.declared.kept.Job.{Job}
 use Rattle.rules.specs.declared.kept.Outcome.{Outcome}
@@ -26,7 +26,7 @@ use Rattle.rules.specs.declared.kept.Turn.{Turn}
 use Rattle.rules.specs.declared.kept.Work.{Work}
 use Rattle.rules.specs.declared.kept.Work.TheVariants.{Rests as rests, Sends as sends}
 use Rattle.rules.specs.Channels.{is_living_handle}
-use Rattle.rules.specs.After.{opened_behind, next_or_over, stage_of_open, stage_after, refused_outcome, success_or_refusal, no_channel_left, opening_outcome, selecting_outcome, open_outcome, outcome_of, turn_answered}
+use Rattle.rules.specs.After.{opened_behind, next_or_over, stage_of_open, stage_after, refused_outcome, no_channel_left, opening_outcome, selecting_outcome, open_outcome, turn_answered}
 
 -- ---- the phases
 

@@ -1,7 +1,7 @@
 -- The card's numbers where a turn or an operation begins, where a turn ends, and where an operation is answered.
-use Rattle.std.proofs.Common.{◌≡◌, inl, inr, ℕ, zero, suc, ◌==◌, ◌&&◌, ◌||◌, not, Bool, true, false, if◌then◌else◌, Option, Some, None, List, [], ◌∷◌, ◌++◌, refl, ap, sym, ◌∙◌, subst, arith, true≢false}
-use Rattle.std.specs.Prelude.{option_map, filter, find}
-use Rattle.std.proofs.lemmas.Bool.{and_parts, and_from, or_parts, eqb-true, eq-eqb}
+use Rattle.std.proofs.Common.{◌≡◌, ℕ, ◌==◌, ◌&&◌, ◌||◌, Bool, true, false, if◌then◌else◌, Option, Some, None, List, [], ◌∷◌, ◌++◌, refl, ap, sym, ◌∙◌, subst, arith}
+use Rattle.std.specs.Prelude.{option_map}
+use Rattle.std.proofs.lemmas.Bool.{or_parts, eq-eqb}
 use Rattle.apdu.specs.Values.{CommandValue}
 use Rattle.apdu.specs.Words.{is_one_of}
 use Rattle.card_effects.specs.Numbers.{AllApart}
@@ -11,7 +11,6 @@ use Rattle.script_reader.specs.declared.types.Operation.TheVariants as operation
 use Rattle.report.specs.declared.answer.Answer.{Answer}
 use Rattle.report.specs.declared.answer.Answer.TheVariants as answer
 use Rattle.link.specs.declared.chain.Chain.{Chain}
-use Rattle.epoch_cache.specs.declared.past.Past.{Past}
 use Rattle.channels.specs.Channels.{open_command, close_command, select_application}
 use Rattle.rules.specs.declared.holdings.Handle.{Handle}
 use Rattle.rules.specs.declared.kept.Begun.{Begun}
@@ -21,17 +20,15 @@ use Rattle.rules.specs.declared.kept.Outcome.TheVariants as outcome
 use Rattle.rules.specs.declared.kept.Stage.{Stage}
 use Rattle.rules.specs.declared.kept.Stage.TheVariants.{Fresh as fresh, Next as next, Resetting as resetting, Over as over}
 use Rattle.rules.specs.declared.kept.Turn.{Turn}
-use Rattle.rules.specs.declared.kept.Work.{Work}
 use Rattle.rules.specs.declared.kept.Work.TheVariants.{Rests as rests, Sends as sends}
 use Rattle.rules.specs.History.{lives_in}
-use Rattle.rules.specs.Channels.{is_handle_of, handle_of, is_living_handle, held_numbers, without_handle, with_handle, handles_after}
+use Rattle.rules.specs.Channels.{is_handle_of, handle_of, is_living_handle, held_numbers, without_handle, with_handle}
 use Rattle.rules.specs.Kept.{job_of, begun_of, begun_operation, operation_now}
 use Rattle.rules.specs.Work.{living_handle, sends_close, work_of_operation}
 use Rattle.rules.specs.Due.{command_by_chain, due_command, with_card, with_ended, is_lost, on_handle, answer_of_outcome, outcome_answer, answer_of, answer_of_begun, answer_of_actor, due_answer}
-use Rattle.rules.specs.Rules.{same_answer}
-use Rattle.performed.proofs.CalmHeld.{AreApart, none_left, apart_added, held_added, dead_leaves}
-use Rattle.performed.proofs.CalmMatch.{Matches, matches_last}
-use Rattle.performed.proofs.CalmPhase.{IsStill, NotOpened, SelectChain, OpenPhase, open_rests, open_ready, open_selects, open_gives_up, open_done, open_failed, IsFree, ClosePhase, close_rests, close_ready, close_done}
+use Rattle.performed.proofs.CalmHeld.{AreApart, none_left, held_added, dead_leaves}
+use Rattle.performed.proofs.CalmMatch.{matches_last}
+use Rattle.performed.proofs.CalmPhase.{IsStill, NotOpened, OpenPhase, open_rests, open_ready, open_selects, open_gives_up, open_done, open_failed, IsFree, ClosePhase, close_rests, close_ready, close_done}
 use Rattle.performed.proofs.CalmExchange.{Right}
 use Rattle.performed.proofs.CalmTurn.{held_in, wanted_by, OpenState, CloseState, due_fresh, due_next}
 

@@ -1,25 +1,21 @@
 -- An exchange in the turn of an open or a close: the card's numbers stay right.
-use Rattle.std.proofs.Common.{◌≡◌, inl, inr, ℕ, zero, suc, ◌+◌, ◌-◌, ◌%◌, ◌==◌, ◌&&◌, ◌||◌, not, Bool, true, false, if◌then◌else◌, Option, Some, None, List, [], ◌∷◌, ◌++◌, refl, ap, sym, ◌∙◌, subst, arith, true≢false}
+use Rattle.std.proofs.Common.{◌≡◌, ℕ, ◌+◌, ◌-◌, ◌%◌, ◌==◌, ◌&&◌, ◌||◌, not, Bool, true, false, if◌then◌else◌, Option, Some, None, List, [], ◌∷◌, ◌++◌, refl, ap, sym, ◌∙◌, subst, arith, true≢false}
 use Rattle.std.specs.Prelude.{nat_lt}
-use Rattle.std.proofs.lemmas.Bool.{and_parts, eqb-true, eq-eqb}
+use Rattle.std.proofs.lemmas.Bool.{eq-eqb}
 use Rattle.apdu.specs.Values.{CommandValue, ResponseValue}
 use Rattle.apdu.specs.Words.{is_one_of, has_value, or_else}
 use Rattle.apdu.specs.Apdu.{same_command, select_ins, manage_channel_ins, verify_ins, is_success, has_more, wants_more, le_of_byte, with_le}
 use Rattle.card_model.specs.declared.world.Change.{Change}
 use Rattle.card_model.specs.declared.world.CardState.{CardState}
 use Rattle.card_model.specs.Step.{on_card}
-use Rattle.card_effects.specs.Numbers.{numbers, AllApart}
+use Rattle.card_effects.specs.Numbers.{numbers}
 use Rattle.card_effects.proofs.Table.{no_more_by, no_other_by}
-use Rattle.script_reader.specs.declared.types.Script.{Script}
 use Rattle.script_reader.specs.declared.types.Operation.{Operation}
 use Rattle.script_reader.specs.declared.types.Operation.TheVariants as operation
-use Rattle.report.specs.declared.line.Line.{Line}
-use Rattle.report.specs.declared.line.Line.TheVariants as line
 use Rattle.link.specs.declared.chain.Chain.{Chain}
 use Rattle.link.specs.declared.chain.Final.{Final}
 use Rattle.link.specs.Commands.{asks_more, chain_count, chain_first, first_of, follow_up, get_response_for, most_exchanges}
 use Rattle.channels.specs.Channels.{open_command, close_command, select_application, is_opening}
-use Rattle.epoch_cache.specs.declared.past.Past.{Past}
 use Rattle.loader.specs.declared.reading.RefusedReading.{RefusedReading}
 use Rattle.rules.specs.declared.holdings.Handle.{Handle}
 use Rattle.rules.specs.declared.kept.Facts.{Facts}
@@ -32,12 +28,11 @@ use Rattle.rules.specs.declared.kept.Stage.TheVariants.{Fresh as fresh, Next as 
 use Rattle.rules.specs.declared.kept.Turn.{Turn}
 use Rattle.rules.specs.declared.kept.Work.{Work}
 use Rattle.rules.specs.declared.kept.Work.TheVariants.{Rests as rests, Sends as sends}
-use Rattle.rules.specs.Kept.{job_of}
 use Rattle.rules.specs.Channels.{is_handle_of, handle_of, is_living_handle, held_numbers, without_handle}
-use Rattle.rules.specs.After.{opened_behind, turn_answered, stage_after, outcome_of, success_or_refusal, refused_outcome}
+use Rattle.rules.specs.After.{opened_behind, turn_answered, stage_after, success_or_refusal, refused_outcome}
 use Rattle.rules.specs.Due.{first_of_turn, command_by_stage, command_by_chain, due_command}
 use Rattle.performed.proofs.CalmHeld.{AreApart, held_apart, fewer_held, living_in, number_leaves}
-use Rattle.performed.proofs.CalmPhase.{IsStill, NotOpened, SelectChain, OpenPhase, open_rests, open_ready, open_selects, open_gives_up, open_done, open_failed, IsFree, ClosePhase, close_rests, close_ready, close_done, list_of, same_command_is, number_led, select_led, close_led}
+use Rattle.performed.proofs.CalmPhase.{IsStill, NotOpened, SelectChain, OpenPhase, open_rests, open_ready, open_selects, open_gives_up, open_done, open_failed, ClosePhase, close_rests, close_ready, close_done, list_of, same_command_is, number_led, select_led, close_led}
 use Rattle.performed.proofs.CalmExchange.{Right, others_keep, OpenedOn, opened_on, ClosedOn, closed_on, right_dropped}
 
 abbrev pub held_in : Kept → List ℕ
