@@ -1,56 +1,56 @@
-mod TurnsSays
-mod Handles
-mod TurnsJobs
-mod Plain
-mod TurnsKept
-mod TurnsStale
-mod TurnsPhase
-mod TurnsLoad
-mod TurnsMove
-mod OperationsKept
-mod WantedFamilies
-mod LegalWorld
-mod LegalDue
-mod LegalScript
-mod LegalResets
-mod LegalLooks
-mod LegalLines
-mod LegalPlaces
-mod Legal
-mod Counts
-mod MeasureSays
-mod MeasureShape
-mod MeasureBegun
-mod MeasureNumbers
-mod Measure
-mod CalmLent
-mod CalmSends
-mod CalmArmed
-mod CalmManage
-mod CalmHeld
-mod CalmMatch
-mod CalmPhase
-mod CalmExchange
-mod CalmTurn
-mod CalmOps
-mod CalmState
-mod CalmKnown
-mod CalmBehind
-mod CalmCards
-mod CalmRest
-mod ProgressActors
-mod ProgressJobs
-mod ProgressMarks
-mod ProgressServed
-mod ProgressSomebody
-mod ProgressBegins
-mod ProgressSound
-mod ProgressHandles
-mod ProgressGoes
-mod ProgressMoves
-mod JobPlaces
-mod CalmKinds
-mod CalmEdits
-mod CalmVerify
-mod CalmShown
-mod LastChange
+pub mod TurnsSays
+pub mod Handles
+pub mod TurnsJobs
+pub mod Plain
+pub mod TurnsKept
+pub mod TurnsStale
+pub mod TurnsPhase
+pub mod TurnsLoad
+pub mod TurnsMove
+pub mod OperationsKept
+pub mod WantedFamilies
+pub mod LegalWorld
+pub mod LegalDue
+pub mod LegalScript
+pub mod LegalResets
+pub mod LegalLooks
+pub mod LegalLines
+pub mod LegalPlaces
+pub mod Legal
+pub mod Counts
+pub mod MeasureSays
+pub mod MeasureShape
+pub mod MeasureBegun
+pub mod MeasureNumbers
+pub mod Measure
+pub mod CalmLent
+pub mod CalmSends
+pub mod CalmArmed
+pub mod CalmManage
+pub mod CalmHeld
+pub mod CalmMatch
+pub mod CalmPhase
+pub mod CalmExchange
+pub mod CalmTurn
+pub mod CalmOps
+pub mod CalmState
+pub mod CalmKnown
+pub mod CalmBehind
+pub mod CalmCards
+pub mod CalmRest
+pub mod ProgressActors
+pub mod ProgressJobs
+pub mod ProgressMarks
+pub mod ProgressServed
+pub mod ProgressSomebody
+pub mod ProgressBegins
+pub mod ProgressSound
+pub mod ProgressHandles
+pub mod ProgressGoes
+pub mod ProgressMoves
+pub mod JobPlaces
+pub mod CalmKinds
+pub mod CalmEdits
+pub mod CalmVerify
+pub mod CalmShown
+pub mod LastChange

@@ -1,5 +1,5 @@
 // Channels and PIN sessions that actors hold.
-ghost use Rattle.std.specs.Prelude.{◌≡◌, ◌≤◌, vec_len, if◌then◌else◌, IfSome, OnOk, OnErr};
+ghost use Rattle.std.specs.Prelude.{◌≡◌, ◌≤◌, vec_len, false, if◌then◌else◌, IfSome, IsOk, OnOk, OnErr};
 ghost use Rattle.std.specs.Vec.{vec_capacity};
 ghost use Rattle.std.specs.List.{list_any};
 ghost use Rattle.std.specs.Option.{option_copied};
@@ -219,6 +219,7 @@ pub fn hold(
         ≡ session_rules.sessions_after actor operation.now answer.now epoch sessions.old) }
     ensures no_handle { OnErr result (handles.new ≡ handles.old) }
     ensures no_session { OnErr result (sessions.new ≡ sessions.old) }
+    ensures room { holdings.may_hold operation.now ≡ false → IsOk result }
 {
     match (operation, answer) {
         (Operation::OpenChannel { handle, .. }, Answer::Opened { channel }) => {

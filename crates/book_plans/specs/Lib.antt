@@ -1,0 +1,2 @@
+pub mod Phonebook
+pub mod Law

@@ -1,0 +1,14 @@
+pub mod Scripts
+pub mod Ties
+pub mod Played
+pub mod Shown
+pub mod Follows
+pub mod Lively
+pub mod Refusals
+pub mod Gives
+pub mod Tries
+pub mod Turning
+pub mod Idle
+pub mod Calm
+pub mod Steps
+pub mod Taken

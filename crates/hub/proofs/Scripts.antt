@@ -1,0 +1,133 @@
+-- What the rules of a script, and that it is served, say of it.
+use Rattle.std.proofs.Common.{◌≡◌, ◌≤◌, ◌<◌, ◌&&◌, ◌||◌, ◌⊎◌, inl, inr, eqb-true, ◌==◌, ℕ, zero, suc, Bool, true, false, nat_le, List, [], ◌∷◌, length, Option, Some, None, if◌then◌else◌, refl, sym, ap, subst, ◌∙◌, arith, leb-true, true≢false, lit<}
+use Rattle.std.specs.List.{list_all}
+use Rattle.std.specs.Prelude.{option_and_then}
+use Rattle.std.proofs.lemmas.Bool.{and_parts}
+use Rattle.apdu.specs.Words.{has_value, is_between, is_one_of}
+use Rattle.families.specs.Contents.{family_count}
+use Rattle.families.specs.Families.{all_families}
+use Rattle.script_reader.specs.declared.types.Script.{Script}
+use Rattle.script_reader.specs.declared.types.Operation.{Operation}
+use Rattle.script_reader.specs.declared.types.Operation.TheVariants as operation
+use Rattle.script_reader.specs.Operations.{operation_count, is_actor}
+use Rattle.script_reader.specs.Rules.{keeps_rules, cards_keep_rules, changes_keep_rules, actors_keep_rules, schedule_keeps_rules, faults_keep_rules, budget_keeps_rules}
+use Rattle.report.specs.declared.line.Line.{Line}
+use Rattle.report.specs.declared.line.Line.TheVariants as line
+use Rattle.rules.specs.declared.due.Due.TheVariants.{Publish as publish}
+use Rattle.rules.specs.declared.kept.Begun.{Begun}
+use Rattle.rules.specs.declared.kept.Job.{Job}
+use Rattle.rules.specs.declared.kept.Kept.{Kept}
+use Rattle.rules.specs.Kept.{begun_of, job_of, operation_at, operation_now}
+use Rattle.rules.specs.After.{family_at, kept_of}
+use Rattle.rules.specs.Due.{due, published_by}
+use Rattle.epoch_cache.specs.Cache.{all_current}
+use Rattle.families.specs.Families.{family_paths}
+use Rattle.performed.proofs.TurnsSays.{says_of}
+use Rattle.tracker.specs.Held.{may_hold}
+use Rattle.tracker.specs.Room.{operation_fits}
+use Rattle.planner.specs.Room.{is_edit}
+use Rattle.performed.specs.Served.{is_served, serves}
+use Rattle.performed.proofs.CalmSends.{ServedOp, served_at, served_now}
+use Rattle.performed.proofs.LegalScript.{family_known, is_family_or_none}
+use Rattle.hub.specs.Ready.{family_by, family_next, family_ready, if_current}
+use Rattle.hub.specs.Parts.{Parts}
+use Rattle.hub.specs.Settled.{IsTied}
+
+pub few_actors : (s : Script) → keeps_rules s ≡ true → length s.actors ≤ 254
+few_actors s h =
+    let version = s.version == 1 in
+    let cards = cards_keep_rules s.cards in
+    let changes = changes_keep_rules s.changes in
+    let actors = actors_keep_rules (length s.cards) (length s.changes) s.actors in
+    let schedule = schedule_keeps_rules (length s.actors) s.schedule in
+    let faults = faults_keep_rules s.faults in
+    let q1 = and_parts (version && cards && changes && actors && schedule && faults) (budget_keeps_rules s.budget) h in
+    let q2 = and_parts (version && cards && changes && actors && schedule) faults q1.0 in
+    let q3 = and_parts (version && cards && changes && actors) schedule q2.0 in
+    let q4 = and_parts (version && cards && changes) actors q3.0 in
+    let q5 = and_parts (is_between 1 8 (length s.actors) && nat_le (operation_count s.actors) 1000) (list_all (is_actor (length s.cards) (length s.changes)) s.actors) q4.1 in
+    let q6 = and_parts (is_between 1 8 (length s.actors)) (nat_le (operation_count s.actors) 1000) q5.0 in
+    let q7 = and_parts (nat_le 1 (length s.actors)) (nat_le (length s.actors) 8) q6.0 in
+    let few = leb-true (length s.actors) 8 q7.1 in
+    omega arith
+
+-- ---- the operations of a script that is served
+
+fits_op : (o : Option Operation) → ServedOp o → operation_fits o ≡ true
+fits_op None h = refl
+fits_op (Some (operation.Insert card)) h = refl
+fits_op (Some (operation.Load f)) h = refl
+fits_op (Some operation.Look) h = refl
+fits_op (Some op) h = absurd (true≢false (sym h))
+
+edit_op : (o : Option Operation) → ServedOp o → is_edit o ≡ false
+edit_op None h = refl
+edit_op (Some (operation.Insert card)) h = refl
+edit_op (Some (operation.Load f)) h = refl
+edit_op (Some operation.Look) h = refl
+edit_op (Some op) h = absurd (true≢false (sym h))
+
+hold_op : (o : Option Operation) → ServedOp o → has_value may_hold o ≡ false
+hold_op None h = refl
+hold_op (Some (operation.Insert card)) h = refl
+hold_op (Some (operation.Load f)) h = refl
+hold_op (Some operation.Look) h = refl
+hold_op (Some op) h = absurd (true≢false (sym h))
+
+pub fits_now : (s : Script) (a : ℕ) (jobs : List Job) → serves s ≡ true → operation_fits (operation_now s a jobs) ≡ true
+fits_now s a jobs h = fits_op (operation_now s a jobs) (served_now s a jobs h)
+
+pub no_edit_now : (s : Script) (a : ℕ) (jobs : List Job) → serves s ≡ true → is_edit (operation_now s a jobs) ≡ false
+no_edit_now s a jobs h = edit_op (operation_now s a jobs) (served_now s a jobs h)
+
+pub no_edit_at : (s : Script) (a i : ℕ) → serves s ≡ true → is_edit (operation_at s a i) ≡ false
+no_edit_at s a i h = edit_op (operation_at s a i) (served_at s a i h)
+
+pub holds_nothing : (s : Script) (a i : ℕ) → serves s ≡ true → has_value may_hold (operation_at s a i) ≡ false
+holds_nothing s a i h = hold_op (operation_at s a i) (served_at s a i h)
+
+-- ---- families
+
+one_of_three : (a b c : Bool) → (a || (b || (c || false))) ≡ true → (a ≡ true) ⊎ ((b ≡ true) ⊎ (c ≡ true))
+one_of_three true b c h = inl refl
+one_of_three false true c h = inr (inl refl)
+one_of_three false false true h = inr (inr refl)
+one_of_three false false false h = absurd (true≢false (sym h))
+
+below : (f : ℕ) → is_one_of f all_families ≡ true → f < family_count
+below f h = elim (one_of_three (0 == f) (1 == f) (2 == f) h) [
+  | inl e ↦ let same = eqb-true 0 f e in omega arith
+  | inr other ↦ elim other [
+    | inl e ↦ let same = eqb-true 1 f e in omega arith
+    | inr e ↦ let same = eqb-true 2 f e in omega arith
+  ]
+]
+
+pub known_some : (o : Option ℕ) (f : ℕ) → is_family_or_none o ≡ true → o ≡ Some f → f < family_count
+known_some None f h e = absurd (cc)
+known_some (Some g) f h e = let same : g ≡ f = cc in subst (λ n. n < family_count) same (below g h)
+
+if_some : (k : Kept) (o : Option ℕ) (f : ℕ) → option_and_then (if_current k) o ≡ Some f → o ≡ Some f
+if_some k None f h = absurd (cc)
+if_some k (Some g) f h = by (all_current k.files (family_paths g)) h
+  where
+    by : (b : Bool) → (if b then Some g else None) ≡ Some f → Some g ≡ Some f
+    by true e = e
+    by false e = absurd (cc)
+
+module _ (s : Script) (lines : List Line) (rules : keeps_rules s ≡ true) (served : serves s ≡ true) where
+  by_begun : (a : ℕ) (o : Option Begun) → is_family_or_none (family_by s (kept_of s lines) (suc a) o) ≡ true
+  by_begun a (Some b) = family_known s (line.Turn (suc a) ∷ lines) rules served
+  by_begun a None = family_known s (line.Begin (suc a) (job_of (suc a) (kept_of s lines).jobs).answered ∷ lines) rules served
+
+  next_known : (a : ℕ) → is_family_or_none (family_next s (kept_of s lines) a) ≡ true
+  next_known zero = family_known s (line.Turn zero ∷ lines) rules served
+  next_known (suc a) = by_begun a (begun_of (suc a) (kept_of s lines).jobs)
+
+  pub ready_known : (a f : ℕ) → family_ready s (kept_of s lines) a ≡ Some f → f < family_count
+  ready_known a f h = known_some (family_next s (kept_of s lines) a) f (next_known a) (if_some (kept_of s lines) (family_next s (kept_of s lines) a) f h)
+
+pub ready_family : (p : Parts) (a f : ℕ) → IsTied p → family_ready p.script p.kept a ≡ Some f → f < family_count
+ready_family p a f t h =
+    ready_known p.script p.lines.lines t.lines.rules t.lines.served a f
+    (subst (λ (k : Kept). family_ready p.script k a ≡ Some f) t.kept h)

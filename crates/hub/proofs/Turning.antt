@@ -1,0 +1,186 @@
+-- A turn under way: what its next line may ask for, and what it leaves.
+use Rattle.std.proofs.Common.{◌≡◌, ◌≤◌, ◌<◌, ◌&&◌, ◌+◌, ◌*◌, ◌^◌, ◌==◌, ◌++◌, ◌⊎◌, inl, inr, ℕ, zero, suc, not, Bool, true, false, nat_lt, if◌then◌else◌, List, [], ◌∷◌, length, slice_get, unwrap_or, Option, Some, None, is_some, is_none, option_map, refl, sym, ap, ◌∙◌, subst, true≢false, arith, lt-ltb, ltb-true, ltb-false, append_assoc}
+use Rattle.std.specs.List.{list_all}
+use Rattle.std.proofs.lemmas.Bool.{and_parts}
+use Rattle.script_reader.specs.declared.types.Script.{Script}
+use Rattle.script_reader.specs.Rules.{keeps_rules}
+use Rattle.script_reader.specs.declared.types.Operation.{Operation}
+use Rattle.report.specs.declared.line.Line.{Line}
+use Rattle.report.specs.declared.line.Line.TheVariants as line
+use Rattle.link.specs.declared.chain.Final.{Final}
+use Rattle.editor.specs.Editing.{no_editing}
+use Rattle.loader.specs.declared.reading.RefusedReading.{RefusedReading}
+use Rattle.rules.specs.declared.kept.Begun.{Begun}
+use Rattle.rules.specs.declared.kept.Facts.{Facts}
+use Rattle.rules.specs.declared.kept.Job.{Job}
+use Rattle.rules.specs.declared.kept.Kept.{Kept}
+use Rattle.rules.specs.declared.kept.Turn.{Turn}
+use Rattle.rules.specs.Kept.{begun_of, first_job, job_of}
+use Rattle.rules.specs.After.{facts_of, is_mark, kept_after, kept_of, turn_exchanged}
+use Rattle.rules.specs.Due.{due, kept_text}
+use Rattle.rules.specs.Performed.{ends_turn}
+use Rattle.planner.specs.Room.{begun_fits as updates_fit, is_decided, turn_fits, turn_is_decided, handles_fit}
+use Rattle.tracker.specs.Room.{CountsOn, HasRoom, begun_has_room, job_has_room, mailbox_has_room}
+use Rattle.performed.specs.Served.{serves}
+use Rattle.performed.specs.Followed.{are_followed, is_followed}
+use Rattle.performed.specs.Laws.{AreCounted, ArePlainJobs, IsPlain, IsPlainJob, has_no_edit, has_no_mark}
+use Rattle.performed.specs.Measure.{is_begun, one_if, steps_left}
+use Rattle.performed.proofs.Counts.{counts}
+use Rattle.performed.proofs.Measure.{turns_end}
+use Rattle.performed.proofs.Plain.{stays_plain}
+use Rattle.performed.proofs.TurnsKept.{goes_on}
+use Rattle.hub.specs.Hub.{AddsTurn}
+use Rattle.hub.specs.Parts.{Parts}
+use Rattle.hub.specs.Ready.{family_ready}
+use Rattle.hub.specs.Settled.{BreaksBehind, HasBroken, HasLine, HasOneMore, HasTurned, IsPrepared, IsReady, IsSettled, IsTied, IsTurning, IsUnderWay, most_of_text}
+
+-- ---- plain jobs
+
+answered_fits : (n : ℕ) → n ≤ 1000 → nat_lt (n + 1) (2 ^ 32) ≡ true
+answered_fits n h = lt-ltb (n + 1) (2 ^ 32) (omega arith)
+
+begun_room : (o : Option Begun) → has_no_edit o → begun_has_room o ≡ true
+begun_room None h = refl
+begun_room (Some b) h = rw h refl
+
+job_room : (job : Job) → IsPlainJob job → job_has_room job ≡ true
+job_room job h = rw (answered_fits job.answered h.answered, h.mailbox, begun_room job.begun h.editing) refl
+
+jobs_room : (jobs : List Job) → ArePlainJobs jobs → list_all job_has_room jobs ≡ true
+jobs_room [] h = refl
+jobs_room (job ∷ jobs) h = rw (job_room job h.0) (jobs_room jobs h.1)
+
+job_plain : (jobs : List Job) (a : ℕ) → ArePlainJobs jobs → has_no_edit (begun_of a jobs)
+job_plain [] a h = tt
+job_plain (job ∷ jobs) zero h = h.0.editing
+job_plain (job ∷ jobs) (suc a) h = job_plain jobs a h.1
+
+begun_updates : (o : Option Begun) → has_no_edit o → updates_fit o ≡ true
+begun_updates None h = refl
+begun_updates (Some b) h = rw h refl
+
+begun_undecided : (o : Option Begun) → has_no_edit o → is_decided o ≡ false
+begun_undecided None h = refl
+begun_undecided (Some b) h = rw h refl
+
+turn_updates : (o : Option ℕ) (jobs : List Job) → ArePlainJobs jobs → turn_fits o jobs ≡ true
+turn_updates None jobs h = refl
+turn_updates (Some a) jobs h = begun_updates (begun_of a jobs) (job_plain jobs a h)
+
+turn_undecided : (o : Option ℕ) (jobs : List Job) → ArePlainJobs jobs → turn_is_decided o jobs ≡ false
+turn_undecided None jobs h = refl
+turn_undecided (Some a) jobs h = begun_undecided (begun_of a jobs) (job_plain jobs a h)
+
+-- ---- room to keep one line more
+
+counts_on : (n : ℕ) (k : Kept) → AreCounted n k → n + 1 < 2 ^ 64 → CountsOn k.history k.publications k.marks
+counts_on n k c h =
+    let e = c.events in
+    let l = c.calls in
+    let p = c.epoch in
+    let q = c.publications in
+    let m = c.marks in
+    record { events = omega arith; calls = omega arith; epoch = omega arith; publications = omega arith; marks = omega arith }
+
+module _ (p : Parts) (t : IsTied p) where
+  plain : IsPlain p.kept
+  plain = subst IsPlain (sym t.kept) (stays_plain p.script p.lines.lines t.lines.rules t.lines.served t.lines.followed)
+
+  pub has_room : length p.lines.lines + 1 < 2 ^ 64 → HasRoom p.kept
+  has_room h = record {
+    counters = counts_on (length p.lines.lines) p.kept (subst (AreCounted (length p.lines.lines)) (sym t.kept) (counts p.script p.lines.lines)) h;
+    jobs = jobs_room p.kept.jobs plain.jobs;
+  }
+
+  pub handles_small : handles_fit p.kept.handles ≡ true
+  handles_small = rw (plain.handles) refl
+
+-- ---- whose turn it is
+
+led_actor : (op : Option Operation) (job : Job) (held : List ℕ) (facts : Facts) (refused : Option RefusedReading) (t : Turn) (o : Option Final) → facts.answered ≡ o → (turn_exchanged op job held facts refused t).actor ≡ t.actor
+led_actor op job held facts refused t None e = rw e refl
+led_actor op job held facts refused t (Some f) e = rw e refl
+
+line_actor : (s : Script) (l : Line) (k : Kept) → is_mark l ≡ false → (kept_after s l k).turn.actor ≡ k.turn.actor
+line_actor s (line.Turn a) k m = absurd (true≢false m)
+line_actor s (line.Begin a i) k m = refl
+line_actor s (line.Exchange a c r) k m = led_actor _ _ _ (facts_of s (line.Exchange a c r) k) _ k.turn (facts_of s (line.Exchange a c r) k).answered refl
+line_actor s (line.Failed a c d) k m = refl
+line_actor s (line.Reset a) k m = refl
+line_actor s (line.ResetFailed a) k m = refl
+line_actor s (line.World a e) k m = refl
+line_actor s (line.Published n f e v text) k m = refl
+line_actor s (line.EpochEnd n e v) k m = refl
+line_actor s (line.Refused f n) k m = refl
+line_actor s (line.Answered a i given) k m = refl
+
+pub unmarked : (b : Bool) → not b ≡ true → b ≡ false
+unmarked true h = absurd (true≢false (sym h))
+unmarked false h = refl
+
+pub turn_actor : (s : Script) (added earlier : List Line) (a : ℕ) → has_no_mark added ≡ true → (kept_of s (added ++ line.Turn a ∷ earlier)).turn.actor ≡ Some a
+turn_actor s [] earlier a h = refl
+turn_actor s (l ∷ added) earlier a h =
+    let q = and_parts (not (is_mark l)) (has_no_mark added) h in
+    line_actor s l (kept_of s (added ++ line.Turn a ∷ earlier)) (unmarked (is_mark l) q.0) ∙ turn_actor s added earlier a q.1
+
+-- ---- the next line may come
+
+module _ (a : ℕ) (earlier : List Line) (text : Option (List ℕ)) (p : Parts) (t : IsTurning a earlier text p) where
+  pub under_way : IsUnderWay a p
+  under_way =
+      let few = t.few in
+      let spare = t.spare in
+      let spare_bytes = t.spare_bytes in
+      let plains = plain p t.tied in
+      record {
+        tied = t.tied;
+        turn = ap (λ (k : Kept). k.turn.actor) t.tied.kept ∙ ap (λ (x : List Line). (kept_of p.script x).turn.actor) t.turn.lines ∙ turn_actor p.script t.turn.added earlier a t.turn.own;
+        counts = has_room p t.tied (omega arith);
+        handles = handles_small p t.tied;
+        fits = turn_updates p.kept.turn.actor p.kept.jobs plains.jobs;
+        undecided = turn_undecided p.kept.turn.actor p.kept.jobs plains.jobs;
+        spare = omega arith;
+        spare_bytes = omega arith;
+      }
+
+  pub has_turned : (q : Parts) → p ≡ q → ends_turn (due p.script p.kept) ≡ true → IsSettled p
+  has_turned q e h = record { tied = t.tied; ends = h }
+
+-- ---- one line more
+
+published_led : (op : Option Operation) (job : Job) (held : List ℕ) (facts : Facts) (refused : Option RefusedReading) (t : Turn) (o : Option Final) → facts.answered ≡ o → (turn_exchanged op job held facts refused t).published ≡ t.published
+published_led op job held facts refused t None e = rw e refl
+published_led op job held facts refused t (Some f) e = rw e refl
+
+published_stays : (s : Script) (l : Line) (k : Kept) → is_mark l ≡ false → is_some k.turn.published ≡ true → is_some (kept_after s l k).turn.published ≡ true
+published_stays s (line.Turn a) k m h = absurd (true≢false m)
+published_stays s (line.Begin a i) k m h = h
+published_stays s (line.Exchange a c r) k m h = ap is_some (published_led _ _ _ (facts_of s (line.Exchange a c r) k) _ k.turn (facts_of s (line.Exchange a c r) k).answered refl) ∙ h
+published_stays s (line.Failed a c d) k m h = h
+published_stays s (line.Reset a) k m h = h
+published_stays s (line.ResetFailed a) k m h = h
+published_stays s (line.World a e) k m h = h
+published_stays s (line.Published n f e v text) k m h = refl
+published_stays s (line.EpochEnd n e v) k m h = h
+published_stays s (line.Refused f n) k m h = h
+published_stays s (line.Answered a i given) k m h = h
+
+-- what was made ready stays so while no event comes
+abbrev pub unless : ℕ → ℕ → Option (List ℕ) → Option (List ℕ)
+unless before now text = if nat_lt before now then None else text
+
+module _ (a : ℕ) (s : Script) (before k : Kept) (l : Line) (own : is_mark l ≡ false) where
+  none_on : IsReady a s before k None → IsReady a s before (kept_after s l k) None
+  none_on (inl never) = inl never
+  none_on (inr (inl moved)) = let e = (goes_on s l k).events in inr (inl (omega arith))
+  none_on (inr (inr published)) = inr (inr (published_stays s l k own published))
+
+  pub ready_by : (text : Option (List ℕ)) (b : Bool) → nat_lt before.history.events (kept_after s l k).history.events ≡ b → IsReady a s before k text → IsReady a s before (kept_after s l k) (if b then None else text)
+  ready_by text true e h = inr (inl (ltb-true before.history.events (kept_after s l k).history.events e))
+  ready_by None false e h = none_on h
+  ready_by (Some text) false e h = let g = (goes_on s l k).events in let n = ltb-false before.history.events (kept_after s l k).history.events e in let same = h.0 in (omega arith, h.1)
+
+pub less_text : (before now : ℕ) (text : Option (List ℕ)) (b : Bool) → most_of_text (if b then None else text) ≤ most_of_text text
+less_text before now text true = omega arith
+less_text before now text false = omega arith

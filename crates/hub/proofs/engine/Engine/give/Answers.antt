@@ -1,0 +1,8 @@
+use Rattle.hub.proofs.Gives.{gives_begun, gives_short}
+use Rattle.hub.proofs.engine.Engine.give.Goals as goal
+
+pub answer-requires-clause-begun : goal.answer-requires-clause-begun
+answer-requires-clause-begun g c = gives_begun c.args.self.now.script c.args.self.now.tracker c.args.actor c.args.answer c.requires.turn.turn c.requires.due
+
+pub answer-requires-clause-bytes : goal.answer-requires-clause-bytes
+answer-requires-clause-bytes g c = gives_short c.args.self.now.script c.args.self.now.tracker c.args.answer c.requires.turn.tied.lines.served c.requires.due

@@ -1,0 +1,15 @@
+use Rattle.std.proofs.Common.{◌≡◌}
+use Rattle.performed.specs.Measure.{steps_left}
+use Rattle.hub.specs.Parts.{parts}
+use Rattle.hub.specs.Settled.{IsTurning, StaysWith}
+use Rattle.hub.proofs.engine.Engine.take_turn.Given as goal
+
+abbrev pub invariant-lines : goal.invariant-lines
+invariant-lines g l = record {
+  turning : IsTurning l.actor l.fn.self.lines.lines l.ready (parts g.S.Slot.world g.S.Slot.plan l.self);
+  stays : StaysWith (parts g.S.Slot.world g.S.Slot.plan l.fn.self) (parts g.S.Slot.world g.S.Slot.plan l.self);
+  from : l.events ≡ l.fn.self.tracker.history.events;
+}
+
+abbrev pub decreases-lines : goal.decreases-lines
+decreases-lines g l = steps_left l.self.tracker

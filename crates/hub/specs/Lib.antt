@@ -1,0 +1,5 @@
+pub mod Hub
+pub mod Parts
+pub mod Settled
+pub mod Ready
+pub mod Performing

@@ -1,0 +1,25 @@
+-- The parts of a hub as values.
+use Rattle.std.specs.Prelude.{ℕ, Option}
+use Rattle.card_model.specs.declared.world.World.{World}
+use Rattle.card_model.specs.Slot.{Plan}
+use Rattle.script_reader.specs.declared.types.Script.{Script}
+use Rattle.report.specs.Room.{LinesRoom}
+use Rattle.rules.specs.declared.kept.Kept.{Kept}
+use Rattle.hub.specs.declared.engine.Engine.{Engine}
+
+-- the script, the lines with their room, what is kept of them, and the world and the planned faults where the slot tells them
+pub record Parts : Type 0 where
+  pub script : Script
+  pub lines : LinesRoom
+  pub kept : Kept
+  pub world : Option World
+  pub plan : Option Plan
+
+abbrev pub parts : {S : Type 0} → (S → Option World) → (S → Option Plan) → Engine S → Parts
+parts world_told plan_told e = record {
+  script = e.script;
+  lines = e.lines;
+  kept = e.tracker;
+  world = world_told e.slot;
+  plan = plan_told e.slot;
+}

@@ -1,0 +1,158 @@
+-- What ties the parts of a hub to its lines.
+use Rattle.std.specs.Prelude.{◌≡◌, ◌<◌, ◌≤◌, ◌⊎◌, ◌++◌, ℕ, ◌+◌, ◌*◌, ◌^◌, true, false, List, ◌∷◌, length, Option, Some, None, option_map, is_some, IfSome}
+use Rattle.card_model.specs.declared.world.World.{World}
+use Rattle.card_model.specs.Slot.{Plan, StaysTold}
+use Rattle.script_reader.specs.declared.types.Script.{Script}
+use Rattle.script_reader.specs.Rules.{keeps_rules}
+use Rattle.report.specs.declared.line.Line.{Line}
+use Rattle.families.specs.Contents.{family_count}
+use Rattle.rules.specs.declared.kept.Kept.{Kept}
+use Rattle.rules.specs.After.{is_mark, kept_of}
+use Rattle.rules.specs.Due.{due, kept_text}
+use Rattle.rules.specs.Work.{is_idle}
+use Rattle.rules.specs.State.{world_of}
+use Rattle.rules.specs.Performed.{ends_turn}
+use Rattle.planner.specs.Room.{handles_fit, turn_fits, turn_is_decided}
+use Rattle.tracker.specs.Room.{HasRoom}
+use Rattle.performed.specs.Served.{serves}
+use Rattle.performed.specs.Followed.{are_followed}
+use Rattle.performed.specs.Told.{are_told}
+use Rattle.performed.specs.Laws.{has_no_mark}
+use Rattle.performed.specs.Measure.{steps_left}
+use Rattle.hub.specs.Hub.{AddsTurn}
+use Rattle.hub.specs.Parts.{Parts}
+use Rattle.hub.specs.Ready.{family_ready}
+
+-- the slot's world is that of the lines, which show what the slot gave
+pub record IsWorldOf (s : Script) (lines : List Line) (w : World) : Type 0 where
+  pub world : w ≡ world_of s lines
+  pub told : are_told s lines ≡ true
+
+-- the slot's faults are the script's, and its calls those of the lines
+pub record IsPlanOf (s : Script) (k : Kept) (p : Plan) : Type 0 where
+  pub faults : p.faults ≡ s.faults
+  pub calls : p.calls ≡ k.history.calls
+
+-- the lines of a script that is served: each was due, and where the slot tells its world and its plan, they are those of the lines
+pub record AreServed (s : Script) (lines : List Line) (w : Option World) (p : Option Plan) : Type 0 where
+  pub rules : keeps_rules s ≡ true
+  pub served : serves s ≡ true
+  pub followed : are_followed s lines ≡ true
+  pub world : IfSome w (IsWorldOf s lines)
+  pub plan : IfSome p (IsPlanOf s (kept_of s lines))
+
+-- so are the lines of the parts, and the tracker keeps what they say
+pub record IsTied (p : Parts) : Type 0 where
+  pub kept : p.kept ≡ kept_of p.script p.lines.lines
+  pub lines : AreServed p.script p.lines.lines p.world p.plan
+
+-- and nothing more is due
+pub record IsSettled (p : Parts) : Type 0 where
+  pub tied : IsTied p
+  pub ends : ends_turn (due p.script p.kept) ≡ true
+
+-- ---- what may change
+
+-- the script stays, and so does what the slot tells
+pub record StaysWith (old new : Parts) : Type 0 where
+  pub script : new.script ≡ old.script
+  pub world : StaysTold old.world new.world
+  pub plan : StaysTold old.plan new.plan
+
+-- all stays but the room for lines, which does not shrink
+pub record KeepsAll (old new : Parts) : Type 0 where
+  pub script : new.script ≡ old.script
+  pub lines : new.lines.lines ≡ old.lines.lines
+  pub kept : new.kept ≡ old.kept
+  pub world : new.world ≡ old.world
+  pub plan : new.plan ≡ old.plan
+  pub spare : old.lines.spare ≤ new.lines.spare
+  pub spare_bytes : old.lines.spare_bytes ≤ new.lines.spare_bytes
+
+-- this line more
+pub record HasLine (l : Line) (old new : Parts) : Type 0 where
+  pub stays : StaysWith old new
+  pub tied : IsTied new
+  pub lines : new.lines.lines ≡ l ∷ old.lines.lines
+  pub spare : old.lines.spare ≤ new.lines.spare + 1
+
+-- one line more, which is no mark
+pub record HasOneMore (old new : Parts) : Type 0 where
+  pub line : Line
+  pub has : HasLine line old new
+  pub own : is_mark line ≡ false
+
+-- behind want of memory: at most lines that are no mark, and an event since there were so many
+pub record BreaksBehind (events : ℕ) (old new : Parts) : Type 0 where
+  pub stays : StaysWith old new
+  pub added : List Line
+  pub lines : new.lines.lines ≡ added ++ old.lines.lines
+  pub own : has_no_mark added ≡ true
+  pub event : events < (kept_of new.script new.lines.lines).history.events
+
+-- ---- before a turn
+
+abbrev pub most_of_text : Option (List ℕ) → ℕ
+most_of_text None = 0
+most_of_text (Some text) = 32 + length text
+
+-- the text that the turn publishes before any event of its own, and room for all lines of the turn, beside further texts
+pub record IsPrepared (a : ℕ) (text : Option (List ℕ)) (p : Parts) : Type 0 where
+  pub ready : text ≡ option_map (λ f. kept_text f p.kept) (family_ready p.script p.kept a)
+  pub few : length p.lines.lines + 512 < 2 ^ 64
+  pub spare : 98 ≤ p.lines.spare
+  pub spare_bytes : 59008 + most_of_text text ≤ p.lines.spare_bytes
+
+-- ---- within a turn
+
+-- the turn of the actor is under way, and there is room for its next line, beside a text
+pub record IsUnderWay (a : ℕ) (p : Parts) : Type 0 where
+  pub tied : IsTied p
+  pub turn : p.kept.turn.actor ≡ Some a
+  pub counts : HasRoom p.kept
+  pub handles : handles_fit p.kept.handles ≡ true
+  pub fits : turn_fits p.kept.turn.actor p.kept.jobs ≡ true
+  pub undecided : turn_is_decided p.kept.turn.actor p.kept.jobs ≡ false
+  pub spare : 0 < p.lines.spare
+  pub spare_bytes : 608 ≤ p.lines.spare_bytes
+
+-- what was made ready is what the turn publishes next, where that is due; where nothing is ready, an event of the turn stands before
+pub record MayPublish (events f : ℕ) (ready : Option (List ℕ)) (p : Parts) : Type 0 where
+  pub family : f < family_count
+  pub text : IfSome ready (λ t. t ≡ kept_text f p.kept)
+  pub event : ready ≡ None → events < p.kept.history.events
+  pub spare_bytes : most_of_text ready ≤ p.lines.spare_bytes
+
+-- the bytes that a text took were made ready for it, or there is room for a whole turn beside it
+abbrev pub LeavesRoom : ℕ → ℕ → ℕ → ℕ → Type 0
+LeavesRoom beside ready old new = (old + beside ≤ new + ready) ⊎ (59008 + beside ≤ new)
+
+-- the text is what was made ready before the turn while no event of the turn came; it is used once
+abbrev pub IsReady : ℕ → Script → Kept → Kept → Option (List ℕ) → Type 0
+IsReady a s before k (Some text) = (k.history.events ≡ before.history.events) × (Some text ≡ option_map (λ f. kept_text f before) (family_ready s before a))
+IsReady a s before k None = (family_ready s before a ≡ None) ⊎ ((before.history.events < k.history.events) ⊎ (is_some k.turn.published ≡ true))
+
+-- a turn of the actor is under way behind these lines, and has room for all that it can still add
+pub record IsTurning (a : ℕ) (earlier : List Line) (text : Option (List ℕ)) (p : Parts) : Type 0 where
+  pub tied : IsTied p
+  pub turn : AddsTurn a earlier p.lines.lines
+  pub awake : is_idle p.script (kept_of p.script earlier) a ≡ false
+  pub ready : IsReady a p.script (kept_of p.script earlier) p.kept text
+  pub few : length p.lines.lines + steps_left p.kept + 1 < 2 ^ 64
+  pub steps : steps_left p.kept ≤ 96
+  pub spare : steps_left p.kept + 1 ≤ p.lines.spare
+  pub spare_bytes : 608 * (steps_left p.kept + 1) + most_of_text text ≤ p.lines.spare_bytes
+
+-- ---- behind a turn
+
+-- the turn of the actor was taken to its end
+pub record HasTurned (a : ℕ) (old new : Parts) : Type 0 where
+  pub stays : StaysWith old new
+  pub settled : IsSettled new
+  pub turn : AddsTurn a old.lines.lines new.lines.lines
+
+-- it broke off, behind an event of its own
+pub record HasBroken (a : ℕ) (old new : Parts) : Type 0 where
+  pub stays : StaysWith old new
+  pub turn : AddsTurn a old.lines.lines new.lines.lines
+  pub event : (kept_of old.script old.lines.lines).history.events < (kept_of new.script new.lines.lines).history.events

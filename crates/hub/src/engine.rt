@@ -1,0 +1,36 @@
+// The parts of a hub.
+
+use apdu::Memory;
+use epoch_cache::CachedFiles;
+use planner::EditPlans;
+use adn::{Edit, Plan, PlanError};
+use report::ReservedLines;
+use script::Script;
+use std::alloc::Global;
+use tracker::Tracker;
+
+/// The parts of a hub.
+#[derive(Drop)]
+pub struct Engine<S> {
+    pub alloc: Global,
+    pub slot: S,
+    pub script: Script,
+    pub lines: ReservedLines,
+    pub tracker: Tracker,
+}
+
+/// No plan of an edit: scripts with edits are not served yet.
+#[derive(Drop)]
+pub struct NoPlans;
+
+impl EditPlans for NoPlans {
+    fn plan(
+        &self,
+        _alloc: Global,
+        _family: u8,
+        _edit: &Edit,
+        _files: &CachedFiles,
+    ) -> Result<Result<Plan, PlanError>, Memory> {
+        Err(Memory)
+    }
+}

@@ -1,0 +1,6 @@
+//! A PIN session begins by one VERIFY.
+#![tactic(auto)]
+
+mod verifying;
+
+pub use verifying::{VerifyError, verify};
