@@ -1,5 +1,5 @@
 -- What a turn publishes before any event of its own was ready before the turn.
-use Rattle.std.proofs.Common.{◌≡◌, ◌≤◌, ◌<◌, ◌&&◌, ◌+◌, ◌++◌, ◌==◌, ℕ, zero, suc, not, Bool, true, false, if◌then◌else◌, List, [], ◌∷◌, Option, Some, None, is_some, is_none, refl, sym, ap, ◌∙◌, subst, true≢false, arith}
+use Rattle.std.proofs.Common.{◌≡◌, ◌≤◌, ◌&&◌, ◌+◌, ◌++◌, ℕ, zero, suc, not, Bool, true, false, if◌then◌else◌, List, [], ◌∷◌, Option, Some, None, is_none, refl, sym, ap, ◌∙◌, subst, true≢false, arith}
 use Rattle.std.specs.Prelude.{option_and_then, option_map}
 use Rattle.std.proofs.lemmas.Bool.{and_parts}
 use Rattle.families.specs.Families.{family_paths}
@@ -17,9 +17,9 @@ use Rattle.rules.specs.declared.kept.Kept.{Kept}
 use Rattle.rules.specs.History.{is_event, lives_in}
 use Rattle.rules.specs.Kept.{begun_of, job_of, operation_at, operation_now}
 use Rattle.rules.specs.After.{family_at, family_of_begun, fresh_begun, is_mark, kept_after, kept_of}
-use Rattle.rules.specs.Due.{due, due_publication, published_by}
+use Rattle.rules.specs.Due.{due, published_by}
 use Rattle.rules.specs.Rules.{is_turn_of}
-use Rattle.rules.specs.Performed.{begins_as, is_refusal_told}
+use Rattle.rules.specs.Performed.{is_refusal_told}
 use Rattle.rules.specs.Work.{family_of_operation}
 use Rattle.performed.specs.Followed.{are_followed, is_followed}
 use Rattle.performed.specs.Laws.{has_no_mark}

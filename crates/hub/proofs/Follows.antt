@@ -1,7 +1,7 @@
 -- The line of each kind that is due is followed.
-use Rattle.std.proofs.Common.{◌≡◌, ◌&&◌, ◌==◌, ◌+◌, ℕ, Bool, true, false, List, [], ◌∷◌, Option, Some, None, refl, sym, ap, ◌∙◌, subst, eq-eqb, le-leb, not, ◌≤◌}
+use Rattle.std.proofs.Common.{◌≡◌, ◌&&◌, ◌+◌, ℕ, Bool, true, false, List, [], ◌∷◌, Some, refl, sym, ap, subst, eq-eqb, le-leb, not, ◌≤◌}
 use Rattle.apdu.specs.Values.{CommandValue, ResponseValue}
-use Rattle.apdu.specs.Words.{has_value, same_bytes}
+use Rattle.apdu.specs.Words.{same_bytes}
 use Rattle.card_model.specs.declared.world.WorldEvent.{WorldEvent}
 use Rattle.card_model.specs.declared.world.WorldEvent.TheVariants as world_event
 use Rattle.script_reader.specs.declared.types.Script.{Script}
@@ -10,15 +10,14 @@ use Rattle.report.specs.declared.line.Line.{Line}
 use Rattle.report.specs.declared.line.Line.TheVariants as line
 use Rattle.link.proofs.Steps.{command-refl}
 use Rattle.rules.specs.declared.due.Due.{Due}
-use Rattle.rules.specs.declared.due.Due.TheVariants.{TellEnd as tell_end, Send as send, ResetCard as reset_card, TryEvent as try_event, TellRefusal as tell_refusal, Publish as publish, Give as give, Begin as begin}
-use Rattle.rules.specs.declared.kept.Begun.{Begun}
+use Rattle.rules.specs.declared.due.Due.TheVariants.{TellEnd as tell_end, Send as send, ResetCard as reset_card, TryEvent as try_event, TellRefusal as tell_refusal, Publish as publish, Begin as begin}
 use Rattle.rules.specs.declared.kept.Kept.{Kept}
 use Rattle.rules.specs.declared.kept.Turn.{Turn}
 use Rattle.rules.specs.Kept.{actor_count, begun_of}
 use Rattle.rules.specs.Work.{is_finished}
 use Rattle.rules.specs.Due.{due, kept_text}
 use Rattle.rules.specs.Rules.{is_turn_of, is_begun_at, same_event, same_answer, answer_code}
-use Rattle.rules.specs.Performed.{ends_turn, is_sent, is_end_told, is_refusal_told, is_published}
+use Rattle.rules.specs.Performed.{ends_turn}
 use Rattle.performed.specs.Followed.{is_followed, follows, is_given_or_refused}
 
 pub bytes-same : (xs : List ℕ) → same_bytes xs xs ≡ true

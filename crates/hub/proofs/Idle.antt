@@ -1,26 +1,21 @@
 -- A mark of an actor who waits, or has nothing left, is followed by nothing.
-use Rattle.std.proofs.Common.{◌≡◌, ◌<◌, ◌&&◌, ◌||◌, ◌+◌, ℕ, zero, suc, not, Bool, true, false, if◌then◌else◌, nat_lt, List, [], ◌∷◌, length, slice_get, Option, Some, None, is_some, is_none, refl, sym, ap, ◌∙◌, subst, true≢false, arith, lt-ltb}
+use Rattle.std.proofs.Common.{◌≡◌, ◌&&◌, ◌||◌, ℕ, zero, suc, not, Bool, true, false, if◌then◌else◌, List, [], ◌∷◌, slice_get, Option, Some, None, is_some, refl, sym, ap, ◌∙◌, true≢false, lt-ltb}
 use Rattle.std.specs.Prelude.{option_and_then, option_map}
-use Rattle.std.proofs.lemmas.Bool.{and_parts}
 use Rattle.script_reader.specs.declared.types.Script.{Script}
 use Rattle.script_reader.specs.declared.types.Operation.{Operation}
-use Rattle.report.specs.declared.answer.Answer.{Answer}
 use Rattle.report.specs.declared.line.Line.{Line}
 use Rattle.report.specs.declared.line.Line.TheVariants as line
 use Rattle.apdu.specs.Values.{CommandValue}
-use Rattle.rules.specs.declared.due.Due.{Due}
 use Rattle.rules.specs.declared.due.Due.TheVariants.{EndOfActor as end_of_actor, WaitFor as wait_for, Rest as rest}
 use Rattle.rules.specs.declared.kept.Begun.{Begun}
 use Rattle.rules.specs.declared.kept.Job.{Job}
 use Rattle.rules.specs.declared.kept.Kept.{Kept}
 use Rattle.rules.specs.declared.kept.Stage.TheVariants.{Fresh as fresh}
-use Rattle.rules.specs.declared.kept.Work.{Work}
 use Rattle.rules.specs.declared.kept.Work.TheVariants.{Rests as rests, Resets as resets, Sends as sends}
-use Rattle.rules.specs.declared.standing.Standing.{Standing}
-use Rattle.rules.specs.Kept.{begun_of, begun_operation, first_job, job_of, operation_now, operations_of}
+use Rattle.rules.specs.Kept.{begun_of, begun_operation, job_of, operation_now}
 use Rattle.rules.specs.Standing.{first_stale}
 use Rattle.rules.specs.After.{decision_at, decision_of_begun, family_at, family_of_begun, kept_after, kept_of}
-use Rattle.rules.specs.Due.{answer_of_actor, answer_of_begun, begin_or_rest, command_by_chain, command_by_stage, due, due_answer, due_at_mark, due_by_answer, due_by_command, due_by_end, due_by_event, due_by_publication, due_by_refusal, due_by_reset, due_command, due_of_actor, due_publication, event_by_stage, event_of, first_command, first_of_turn, is_reset_due, is_resetting, published_by, reset_by_stage, tried_event}
+use Rattle.rules.specs.Due.{answer_of_begun, begin_or_rest, command_by_chain, command_by_stage, due, due_answer, due_at_mark, due_by_answer, due_by_command, due_by_end, due_by_event, due_by_publication, due_by_refusal, due_by_reset, due_command, due_of_actor, due_publication, event_by_stage, event_of, first_command, first_of_turn, is_reset_due, is_resetting, published_by, reset_by_stage, tried_event}
 use Rattle.rules.specs.Work.{family_read, first_item, framework_work, has_ended, has_operations_left, has_work, has_work_alive, is_finished, is_idle, is_starting, next_waits_on, read_stale, reads_first, waits_on}
 use Rattle.families.specs.Families.{family_paths}
 use Rattle.refresher.specs.Refresh.{startup_command, fetch_command}
@@ -30,7 +25,7 @@ use Rattle.performed.specs.Followed.{are_followed}
 use Rattle.performed.proofs.Plain.{keeps}
 use Rattle.performed.proofs.ProgressMarks.{idle_same, same_work, seen_of}
 use Rattle.hub.specs.Parts.{Parts}
-use Rattle.hub.specs.Settled.{HasLine, IsSettled, IsTied}
+use Rattle.hub.specs.Settled.{HasLine, IsSettled}
 
 -- ---- a turn that has nothing to do comes to what is due behind its mark
 
@@ -132,11 +127,11 @@ framework_reads_none : (k : Kept) → Quiet k → family_read k ≡ None
 framework_reads_none k t =
     reads_none k (k.history.owes_reset || not k.history.living || is_starting k || is_some k.owed || is_some k.history.announced)
     (λ e.
-        let p = or_none (k.history.owes_reset || not k.history.living || is_starting k || is_some k.owed) (is_some k.history.announced) e in
-        let q = or_none (k.history.owes_reset || not k.history.living || is_starting k) (is_some k.owed) p.0 in
-        let r = or_none (k.history.owes_reset || not k.history.living) (is_starting k) q.0 in
-        let u = or_none k.history.owes_reset (not k.history.living) r.0 in
-        (still_of k (t.alive (flipped k.history.living u.1))).stale)
+    let p = or_none (k.history.owes_reset || not k.history.living || is_starting k || is_some k.owed) (is_some k.history.announced) e in
+    let q = or_none (k.history.owes_reset || not k.history.living || is_starting k) (is_some k.owed) p.0 in
+    let r = or_none (k.history.owes_reset || not k.history.living) (is_starting k) q.0 in
+    let u = or_none k.history.owes_reset (not k.history.living) r.0 in
+    (still_of k (t.alive (flipped k.history.living u.1))).stale)
 
 framework_answers_none : (s : Script) (k : Kept) (b : Option Begun) → answer_of_begun k 0 b (begun_operation s 0 b) ≡ None
 framework_answers_none s k None = refl

@@ -1,6 +1,5 @@
 -- What the slot's calls do where it tells its world and its plan.
-use Rattle.std.proofs.Common.{◌≡◌, ◌≤◌, ◌<◌, ◌&&◌, ◌||◌, ◌+◌, ◌-◌, ◌^◌, min, not, ℕ, Bool, true, false, List, [], ◌∷◌, Option, Some, None, IfSome, is_some, is_none, IsTrue, Result, Ok, Err, is_err, refl, sym, ap, ◌∙◌, subst, true≢false, arith, eq-eqb}
-use Rattle.std.proofs.lemmas.Bool.{and_parts}
+use Rattle.std.proofs.Common.{◌≡◌, ◌<◌, ◌&&◌, ◌||◌, ◌+◌, ◌-◌, ◌^◌, min, not, ℕ, Bool, true, false, List, [], ◌∷◌, Option, Some, None, IfSome, is_some, is_none, Err, refl, sym, ap, ◌∙◌, subst, true≢false, arith, eq-eqb}
 use Rattle.apdu.specs.Values.{CommandValue, ResponseValue}
 use Rattle.apdu.specs.Apdu.{same_response}
 use Rattle.apdu.specs.Words.{is_empty}
@@ -15,7 +14,7 @@ use Rattle.report.specs.declared.line.Line.{Line}
 use Rattle.report.specs.declared.line.Line.TheVariants as line
 use Rattle.rules.specs.declared.kept.Kept.{Kept}
 use Rattle.rules.specs.History.{is_call}
-use Rattle.rules.specs.Rules.{is_failing, has_right_fault, has_right_response, next_fault}
+use Rattle.rules.specs.Rules.{is_failing, next_fault}
 use Rattle.rules.specs.State.{world_after}
 use Rattle.performed.specs.Served.{serves}
 use Rattle.performed.specs.Told.{is_told}

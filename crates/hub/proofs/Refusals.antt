@@ -1,17 +1,15 @@
 -- Only the framework's readings are refused in a line of their own.
-use Rattle.std.proofs.Common.{◌≡◌, ℕ, zero, suc, ◌+◌, ◌&&◌, ◌==◌, Bool, true, false, if◌then◌else◌, List, [], ◌∷◌, Option, Some, None, is_some, refl, sym, ap, ◌∙◌, subst, true≢false}
+use Rattle.std.proofs.Common.{◌≡◌, ℕ, ◌+◌, ◌&&◌, ◌==◌, Bool, true, false, if◌then◌else◌, List, [], ◌∷◌, Option, Some, None, is_some, refl, sym, ap, ◌∙◌, true≢false}
 use Rattle.std.proofs.lemmas.Bool.{and_parts, eqb-true}
 use Rattle.apdu.specs.Values.{CommandValue, ResponseValue}
 use Rattle.apdu.specs.Words.{same_number}
 use Rattle.families.specs.Families.{has_path}
 use Rattle.script_reader.specs.declared.types.Script.{Script}
 use Rattle.script_reader.specs.declared.types.Operation.{Operation}
-use Rattle.refresh_cmd.specs.Values.{ProactiveValue}
 use Rattle.report.specs.declared.line.Line.{Line}
 use Rattle.report.specs.declared.line.Line.TheVariants as line
-use Rattle.link.specs.declared.chain.Chain.{Chain}
 use Rattle.link.specs.declared.chain.Final.{Final}
-use Rattle.link.specs.Commands.{asks_more, chain_count, final_after}
+use Rattle.link.specs.Commands.{asks_more, chain_count}
 use Rattle.loader.specs.declared.reading.RefusedReading.{RefusedReading}
 use Rattle.rules.specs.declared.due.Due.TheVariants.{TellRefusal as tell_refusal}
 use Rattle.rules.specs.declared.kept.Facts.{Facts}
@@ -19,7 +17,7 @@ use Rattle.rules.specs.declared.kept.Job.{Job}
 use Rattle.rules.specs.declared.kept.Kept.{Kept}
 use Rattle.rules.specs.declared.kept.Turn.{Turn}
 use Rattle.rules.specs.Rules.{is_turn_of}
-use Rattle.rules.specs.After.{facts_of, jobs_beside, kept_after, kept_of, opened_behind, refused_event, refused_family, refused_of, turn_answered, turn_exchanged}
+use Rattle.rules.specs.After.{facts_of, jobs_beside, kept_after, kept_of, refused_event, refused_family, refused_of, turn_exchanged}
 use Rattle.rules.specs.Due.{due}
 use Rattle.rules.specs.Performed.{is_sent}
 use Rattle.performed.specs.Followed.{are_followed, is_followed}

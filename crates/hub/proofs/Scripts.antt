@@ -13,19 +13,21 @@ use Rattle.script_reader.specs.Operations.{has_form, is_handle, operation_count,
 use Rattle.script_reader.specs.Rules.{keeps_rules, cards_keep_rules, changes_keep_rules, actors_keep_rules, schedule_keeps_rules, faults_keep_rules, budget_keeps_rules}
 use Rattle.report.specs.declared.line.Line.{Line}
 use Rattle.report.specs.declared.line.Line.TheVariants as line
-use Rattle.rules.specs.declared.due.Due.TheVariants.{Publish as publish}
 use Rattle.rules.specs.declared.kept.Begun.{Begun}
 use Rattle.rules.specs.declared.kept.Job.{Job}
 use Rattle.rules.specs.declared.kept.Kept.{Kept}
 use Rattle.rules.specs.Kept.{begun_of, job_of, operation_at, operation_now}
-use Rattle.rules.specs.After.{family_at, kept_of}
-use Rattle.rules.specs.Due.{due, published_by}
+use Rattle.rules.specs.After.{kept_of}
 use Rattle.epoch_cache.specs.Cache.{all_current}
 use Rattle.families.specs.Families.{family_paths}
 use Rattle.performed.proofs.TurnsSays.{says_of}
+use Rattle.tracker.specs.Held.{gives_holding}
 use Rattle.tracker.specs.Room.{operation_fits}
+use Rattle.report.specs.declared.answer.Answer.{Answer}
+use Rattle.report.specs.declared.answer.Answer.TheVariants as answer
+use Rattle.hub.specs.Performing.{is_holding}
 use Rattle.planner.specs.Room.{is_edit}
-use Rattle.performed.specs.Served.{is_served, serves}
+use Rattle.performed.specs.Served.{serves}
 use Rattle.performed.proofs.CalmSends.{ServedOp, served_at, served_now}
 use Rattle.performed.proofs.LegalScript.{IsPlain, family_known, is_family_or_none, plain_now}
 use Rattle.hub.specs.Ready.{family_by, family_next, family_ready, if_current}
@@ -82,6 +84,19 @@ no_edit_now s a jobs h = edit_op (operation_now s a jobs) (served_now s a jobs h
 
 pub no_edit_at : (s : Script) (a i : ℕ) → serves s ≡ true → is_edit (operation_at s a i) ≡ false
 no_edit_at s a i h = edit_op (operation_at s a i) (served_at s a i h)
+
+-- ---- answers that give a channel or a session
+
+gives_by : (given : Answer) (op : Operation) → is_holding given ≡ false → gives_holding op given ≡ false
+gives_by (answer.Opened channel) op h = absurd (true≢false h)
+gives_by answer.Verified op h = absurd (true≢false h)
+gives_by given (operation.OpenChannel handle aid) h = refl
+gives_by given (operation.Verify key pin) h = refl
+gives_by given op h = refl
+
+pub gives_nothing : (given : Answer) (op : Option Operation) → is_holding given ≡ false → has_value (λ o. gives_holding o given) op ≡ false
+gives_nothing given None h = refl
+gives_nothing given (Some op) h = gives_by given op h
 
 -- ---- families
 

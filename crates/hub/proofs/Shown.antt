@@ -1,6 +1,6 @@
 -- The text of the files that are current.
-use Rattle.std.proofs.Common.{◌≡◌, ◌<◌, ℕ, List, Option, Some, None, unwrap_or, option_map, refl, IfOk, Result, subst, ◌∙◌}
-use Rattle.fcp.specs.Content.{Content, missing}
+use Rattle.std.proofs.Common.{◌≡◌, ◌<◌, ℕ, List, Option, Some, None, unwrap_or, option_map, refl, IfOk, Result, subst}
+use Rattle.fcp.specs.Content.{missing}
 use Rattle.families.specs.Contents.{family_count, files_of}
 use Rattle.families.specs.Families.{shown}
 use Rattle.families.specs.OwnFiles.{same_shown}

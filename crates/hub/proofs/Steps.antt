@@ -1,5 +1,5 @@
 -- A turn from line to line.
-use Rattle.std.proofs.Common.{◌≡◌, ◌≤◌, ◌<◌, ◌&&◌, ◌+◌, ◌*◌, ◌^◌, ◌==◌, ◌++◌, ◌⊎◌, inl, inr, ℕ, zero, suc, not, Bool, true, false, nat_lt, if◌then◌else◌, List, [], ◌∷◌, length, Option, Some, None, is_some, is_none, IfSome, OnErr, Result, Ok, Err, refl, sym, ap, ◌∙◌, subst, true≢false, arith, lt-ltb, ltb-true, ltb-false, append_assoc}
+use Rattle.std.proofs.Common.{◌≡◌, ◌≤◌, ◌<◌, ◌+◌, ◌*◌, ◌++◌, inl, inr, ℕ, suc, not, Bool, true, false, nat_lt, List, [], ◌∷◌, length, Option, Some, None, is_some, OnErr, Result, Ok, Err, refl, sym, ap, ◌∙◌, subst, true≢false, arith, ltb-true, ltb-false, append_assoc}
 use Rattle.std.specs.Prelude.{option_map}
 use Rattle.std.proofs.lemmas.Bool.{and_parts}
 use Rattle.families.specs.Contents.{family_count}
@@ -21,7 +21,7 @@ use Rattle.rules.specs.Performed.{ends_turn}
 use Rattle.rules.specs.Work.{is_finished, is_idle}
 use Rattle.performed.specs.Followed.{are_followed}
 use Rattle.performed.specs.Laws.{has_no_mark}
-use Rattle.performed.specs.Measure.{is_begun, one_if, steps_left}
+use Rattle.performed.specs.Measure.{one_if, steps_left}
 use Rattle.performed.proofs.LegalScript.{family_known, is_family_or_none}
 use Rattle.performed.proofs.Measure.{turns_end}
 use Rattle.performed.proofs.ProgressActors.{nobody}
@@ -85,7 +85,7 @@ first_turning p q a text t awake ready h bytes =
 pub steps_fall : (p q : Parts) → IsTied p → HasOneMore p q → steps_left q.kept < steps_left p.kept
 steps_fall p q t m =
     let follow : are_followed p.script (m.line ∷ p.lines.lines) ≡ true =
-        ap (λ (x : List Line). are_followed p.script x) (sym m.has.lines) ∙ ap (λ (s : Script). are_followed s q.lines.lines) (sym m.has.stays.script) ∙ m.has.tied.lines.followed in
+    ap (λ (x : List Line). are_followed p.script x) (sym m.has.lines) ∙ ap (λ (s : Script). are_followed s q.lines.lines) (sym m.has.stays.script) ∙ m.has.tied.lines.followed in
     let less = ltb-true _ _ (turns_end p.script p.lines.lines m.line follow m.own) in
     let kept : q.kept ≡ kept_of p.script (m.line ∷ p.lines.lines) = m.has.tied.kept ∙ ap (λ (z : Script). kept_of z q.lines.lines) m.has.stays.script ∙ ap (kept_of p.script) m.has.lines in
     let now = ap steps_left kept in
@@ -164,9 +164,9 @@ module _ (a : ℕ) (earlier : List Line) (p : Parts) (f : ℕ) where
       let lines : List Line = t.turn.added ++ line.Turn a ∷ earlier in
       let kept : p.kept ≡ kept_of p.script lines = t.tied.kept ∙ ap (kept_of p.script) t.turn.lines in
       let w = was_ready p.script a f earlier t.turn.added
-          (ap (are_followed p.script) (sym t.turn.lines) ∙ t.tied.lines.followed) t.turn.own
-          (ap (λ (k : Kept). k.history.events) (sym kept) ∙ same)
-          (ap (due p.script) (sym kept) ∙ h) in
+      (ap (are_followed p.script) (sym t.turn.lines) ∙ t.tied.lines.followed) t.turn.own
+      (ap (λ (k : Kept). k.history.events) (sym kept) ∙ same)
+      (ap (due p.script) (sym kept) ∙ h) in
       (w.ready, ap (λ (k : Kept). k.files) kept ∙ w.files)
 
   publishes_known : (text : Option (List ℕ)) → IsTurning a earlier text p → due p.script p.kept ≡ publish f → f < family_count

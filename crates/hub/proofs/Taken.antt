@@ -1,5 +1,5 @@
 -- What callers have of a turn that was taken, and of a run that is finished.
-use Rattle.std.proofs.Common.{◌≡◌, ◌≤◌, ◌&&◌, ◌++◌, ℕ, zero, suc, not, Bool, true, false, List, [], ◌∷◌, Option, Some, None, is_some, IfSome, IsSome, refl, sym, ap, ◌∙◌, subst, true≢false}
+use Rattle.std.proofs.Common.{◌≡◌, ◌++◌, ℕ, not, Bool, true, false, List, [], ◌∷◌, Option, Some, None, IfSome, IsSome, refl, sym, ap, ◌∙◌, subst, true≢false}
 use Rattle.std.proofs.lemmas.Bool.{and_parts}
 use Rattle.card_model.specs.declared.world.World.{World}
 use Rattle.card_model.specs.Slot.{Plan, StaysTold}
@@ -27,7 +27,7 @@ use Rattle.performed.specs.Laws.{RunIsLegal, has_no_mark}
 use Rattle.performed.specs.Progress.{Moves}
 use Rattle.performed.proofs.ProgressMoves.{marks_move}
 use Rattle.performed.proofs.TurnsMove.{turns_move}
-use Rattle.hub.specs.Hub.{AddsTurn, HubValue, TakesTurn, kept_now}
+use Rattle.hub.specs.Hub.{HubValue, IsAtRest, TakesTurn, kept_now}
 use Rattle.hub.specs.Parts.{Parts}
 use Rattle.hub.specs.Settled.{HasLine, HasTurned, IsSettled, IsWorldOf, KeepsAll}
 use Rattle.hub.proofs.Idle.{idle_settles}
@@ -43,6 +43,17 @@ settled_kept p q h t = record {
   tied = tied_kept p q h t.tied;
   ends = ap (λ (s : Script). ends_turn (due s q.kept)) h.script ∙ ap (λ (k : Kept). ends_turn (due p.script k)) h.kept ∙ t.ends;
 }
+
+rest_of : (p : Parts) (whole : Bool) → IsSettled p → IsAtRest (seen p whole)
+rest_of p whole t = record {
+  rules = t.tied.lines.rules;
+  served = t.tied.lines.served;
+  followed = t.tied.lines.followed;
+  ends = ap (λ (k : Kept). ends_turn (due p.script k)) (sym t.tied.kept) ∙ t.ends;
+}
+
+pub rest_now : (h : HubValue) (p : Parts) (whole : Bool) → seen p whole ≡ h → IsSettled p → IsAtRest h
+rest_now h p whole e t = subst IsAtRest e (rest_of p whole t)
 
 -- ---- a turn is not without lines
 
@@ -98,8 +109,7 @@ module _ (p r n : Parts) (a : ℕ) (settled : IsSettled p) (same : KeepsAll p r)
       plan = subst (λ (o : Option Plan). StaysTold o n.plan) same.plan t.stays.plan;
     };
     turn = record { added = t.turn.added; lines = lines_are; own = t.turn.own };
-    followed = t.settled.tied.lines.followed;
-    ends = ends_now;
+    rest = record { rules = t.settled.tied.lines.rules; served = t.settled.tied.lines.served; followed = t.settled.tied.lines.followed; ends = ends_now };
     filled = ap (λ (k : Kept). k.turn.bare) kept_is ∙ filled p.script p.lines.lines t.turn.added a settled.tied.lines.served follow t.turn.own awake ends_then;
     moves = subst (λ (k : Kept). Moves p.script (kept_of p.script p.lines.lines) k) (sym kept_is) (turns_move p.script p.lines.lines t.turn.added a settled.tied.lines.served follow t.turn.own awake ends_then);
     whole = refl;

@@ -3,12 +3,10 @@ use Rattle.std.proofs.Common.{◌≡◌, ◌≤◌, ◌<◌, ◌&&◌, ◌+◌, 
 use Rattle.std.specs.List.{list_all}
 use Rattle.std.proofs.lemmas.Bool.{and_parts}
 use Rattle.script_reader.specs.declared.types.Script.{Script}
-use Rattle.script_reader.specs.Rules.{keeps_rules}
 use Rattle.script_reader.specs.declared.types.Operation.{Operation}
 use Rattle.report.specs.declared.line.Line.{Line}
 use Rattle.report.specs.declared.line.Line.TheVariants as line
 use Rattle.link.specs.declared.chain.Final.{Final}
-use Rattle.editor.specs.Editing.{no_editing}
 use Rattle.loader.specs.declared.reading.RefusedReading.{RefusedReading}
 use Rattle.rules.specs.declared.holdings.Handle.{Handle}
 use Rattle.rules.specs.declared.kept.Begun.{Begun}
@@ -16,9 +14,9 @@ use Rattle.rules.specs.declared.kept.Facts.{Facts}
 use Rattle.rules.specs.declared.kept.Job.{Job}
 use Rattle.rules.specs.declared.kept.Kept.{Kept}
 use Rattle.rules.specs.declared.kept.Turn.{Turn}
-use Rattle.rules.specs.Kept.{begun_of, first_job, job_of}
+use Rattle.rules.specs.Kept.{begun_of}
 use Rattle.rules.specs.After.{facts_of, is_mark, kept_after, kept_of, turn_exchanged}
-use Rattle.rules.specs.Due.{due, kept_text}
+use Rattle.rules.specs.Due.{due}
 use Rattle.rules.specs.Performed.{ends_turn}
 use Rattle.planner.specs.Room.{begun_fits as updates_fit, is_decided, turn_fits, turn_is_decided, handles_fit}
 use Rattle.tracker.specs.Room.{CountsOn, HasRoom, begun_has_room, job_has_room, mailbox_has_room}
@@ -27,10 +25,8 @@ use Rattle.performed.specs.Followed.{are_followed, is_followed}
 use Rattle.performed.specs.Laws.{AreCounted, ArePlainJobs, IsPlain, IsPlainJob, has_no_edit, has_no_mark, is_channel}
 use Rattle.performed.specs.Measure.{is_begun, one_if, steps_left}
 use Rattle.performed.proofs.Counts.{counts}
-use Rattle.performed.proofs.Measure.{turns_end}
 use Rattle.performed.proofs.Plain.{stays_plain}
 use Rattle.performed.proofs.TurnsKept.{goes_on}
-use Rattle.hub.specs.Hub.{AddsTurn}
 use Rattle.hub.specs.Parts.{Parts}
 use Rattle.hub.specs.Ready.{family_ready}
 use Rattle.hub.specs.Settled.{BreaksBehind, HasBroken, HasLine, HasOneMore, HasTurned, IsPrepared, IsReady, IsSettled, IsTied, IsSince, IsTurning, IsUnderWay, most_of_text}

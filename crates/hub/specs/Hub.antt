@@ -3,6 +3,7 @@ use Rattle.std.specs.Prelude.{◌≡◌, ◌<◌, ◌⊎◌, ℕ, ◌++◌, Bool
 use Rattle.card_model.specs.declared.world.World.{World}
 use Rattle.card_model.specs.Slot.{Plan, StaysTold}
 use Rattle.script_reader.specs.declared.types.Script.{Script}
+use Rattle.script_reader.specs.Rules.{keeps_rules}
 use Rattle.report.specs.declared.line.Line.{Line}
 use Rattle.report.specs.declared.line.Line.TheVariants as line
 use Rattle.rules.specs.declared.kept.Kept.{Kept}
@@ -10,6 +11,7 @@ use Rattle.rules.specs.After.{kept_of}
 use Rattle.rules.specs.Due.{due}
 use Rattle.rules.specs.Work.{has_ended, waits_on}
 use Rattle.rules.specs.Performed.{ends_turn}
+use Rattle.performed.specs.Served.{serves}
 use Rattle.performed.specs.Followed.{are_followed}
 use Rattle.performed.specs.Laws.{has_no_mark}
 use Rattle.performed.specs.Progress.{Moves}
@@ -27,6 +29,13 @@ pub record HubValue : Type 0 where
 -- what is kept of its lines
 abbrev pub kept_now : HubValue → Kept
 kept_now h = kept_of h.script h.lines
+
+-- the lines of a script that is served: each was due, and nothing more is
+pub record IsAtRest (h : HubValue) : Type 0 where
+  pub rules : keeps_rules h.script ≡ true
+  pub served : serves h.script ≡ true
+  pub followed : are_followed h.script h.lines ≡ true
+  pub ends : ends_turn (due h.script (kept_now h)) ≡ true
 
 -- a turn of an actor that has operations left: it waits for this one, or moves
 abbrev pub waits_or_moves : Option ℕ → Turn
@@ -53,8 +62,7 @@ pub record AddsTurn (a : ℕ) (old new : List Line) : Type 0 where
 pub record TakesTurn (a : ℕ) (old new : HubValue) : Type 0 where
   pub stays : StaysOf old new
   pub turn : AddsTurn a old.lines new.lines
-  pub followed : are_followed new.script new.lines ≡ true
-  pub ends : ends_turn (due new.script (kept_now new)) ≡ true
+  pub rest : IsAtRest new
   pub filled : (kept_now new).turn.bare ≡ false
   pub moves : Moves old.script (kept_now old) (kept_now new)
   pub whole : new.whole ≡ true

@@ -1,5 +1,5 @@
 -- The parts of a hub as values.
-use Rattle.std.specs.Prelude.{ℕ, Option}
+use Rattle.std.specs.Prelude.{Option}
 use Rattle.card_model.specs.declared.world.World.{World}
 use Rattle.card_model.specs.Slot.{Plan}
 use Rattle.script_reader.specs.declared.types.Script.{Script}

@@ -1,9 +1,9 @@
 // The parts of a hub.
 
+use adn::{Edit, Plan, PlanError};
 use apdu::Memory;
 use epoch_cache::CachedFiles;
 use planner::EditPlans;
-use adn::{Edit, Plan, PlanError};
 use report::ReservedLines;
 use script::Script;
 use std::alloc::Global;

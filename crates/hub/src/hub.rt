@@ -8,7 +8,7 @@ ghost use Rattle.rules.specs.Work.{is_finished as is_run_finished, is_idle as is
 ghost use Rattle.rules.specs.Legal.{legal};
 ghost use Rattle.performed.specs.Served.{serves};
 ghost use Rattle.performed.specs.Placed.{are_placed, is_turn_allowed};
-ghost use Rattle.hub.specs.Hub.{ChangesNothingOrBreaks, TakesTurn, kept_now, turn_answer};
+ghost use Rattle.hub.specs.Hub.{ChangesNothingOrBreaks, IsAtRest, TakesTurn, kept_now, turn_answer};
 
 use crate::engine::Engine;
 use crate::turn::Turn;
@@ -87,8 +87,9 @@ impl<S: ScriptedSlot + Drop> Hub<S> {
 
     /// Whether the run is not finished. A run that broke off is.
     pub fn pending(&self) -> bool
-        ensures { result ≡ (self.now.whole
+        ensures value { result ≡ (self.now.whole
             && not (is_run_finished self.now.script (kept_now self.now))) }
+        ensures rest { self.now.whole ≡ true → IsAtRest self.now }
     {
         self.whole && self.engine.pending()
     }

@@ -42,7 +42,11 @@ fn is_at(call: u64, fault: &Fault) -> bool
 fn fault_at(script: &Script, call: u64) -> Option<&Fault>
     ensures { option_copied result ≡ slots.fault_at call script.now.faults }
 {
-    script.faults.as_slice().iter().find(|fault| is_at(call, fault))
+    script
+        .faults
+        .as_slice()
+        .iter()
+        .find(|fault| is_at(call, fault))
 }
 
 /// Whether the card acted where the call of this number failed.
@@ -282,7 +286,10 @@ impl<S: ScriptedSlot> Engine<S> {
             Some(text) => Ok(text),
             None => {
                 let text = text_of(self.alloc, family, self.tracker.kept())?;
-                let most = text.as_str().len().checked_add(BYTES_OF_TURN + BYTES_OF_PUBLICATION);
+                let most = text
+                    .as_str()
+                    .len()
+                    .checked_add(BYTES_OF_TURN + BYTES_OF_PUBLICATION);
                 self.lines.reserve(1, most.ok_or(Memory)?)?;
                 Ok(text)
             }
@@ -290,7 +297,13 @@ impl<S: ScriptedSlot> Engine<S> {
     }
 
     /// The publication of a family: of the text that is ready, or of a new one.
-    pub fn publish(&mut self, actor: u8, from: u64, family: u8, ready: Option<Text>) -> Result<(), Memory>
+    pub fn publish(
+        &mut self,
+        actor: u8,
+        from: u64,
+        family: u8,
+        ready: Option<Text>,
+    ) -> Result<(), Memory>
         requires turn { IsUnderWay actor (parts S.Slot.world S.Slot.plan self.old) }
         requires due { rules.due self.old.script self.old.tracker ≡ Due.Publish family }
         requires may { MayPublish from family ready (parts S.Slot.world S.Slot.plan self.old) }

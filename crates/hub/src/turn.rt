@@ -98,7 +98,10 @@ impl<S: ScriptedSlot> Engine<S> {
             }
             Some(family) => {
                 let text = text_of(self.alloc, family, kept)?;
-                let most = text.as_str().len().checked_add(BYTES_OF_TURN + BYTES_OF_PUBLICATION);
+                let most = text
+                    .as_str()
+                    .len()
+                    .checked_add(BYTES_OF_TURN + BYTES_OF_PUBLICATION);
                 self.lines.reserve(LINES_OF_TURN, most.ok_or(Memory)?)?;
                 Ok(Some(text))
             }

@@ -1,6 +1,5 @@
-use Rattle.std.proofs.Common.{refl, ap, ◌∙◌}
+use Rattle.std.proofs.Common.{refl}
 use Rattle.report.specs.declared.line.Line.TheVariants as line
-use Rattle.rules.specs.declared.kept.Kept.{Kept}
 use Rattle.hub.proofs.Follows.{refusal_follows}
 use Rattle.hub.proofs.Refusals.{refused_turn}
 use Rattle.hub.proofs.Ties.{of_all, one_quiet}
