@@ -51,6 +51,8 @@ mod ProgressMoves
 mod JobPlaces
 mod CalmKinds
 mod CalmEdits
+mod CalmEpochs
+mod CalmGiven
 mod CalmVerify
 mod CalmShown
 mod LastChange
