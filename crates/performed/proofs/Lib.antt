@@ -54,3 +54,6 @@ mod CalmEdits
 mod CalmVerify
 mod CalmShown
 mod LastChange
+mod FreeNext
+mod FreePairs
+mod FreeReferences
