@@ -56,3 +56,6 @@ mod CalmGiven
 mod CalmVerify
 mod CalmShown
 mod LastChange
+mod FreeNext
+mod FreePairs
+mod FreeReferences
