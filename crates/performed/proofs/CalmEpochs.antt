@@ -32,12 +32,11 @@ use Rattle.rules.specs.declared.kept.Work.{Work}
 use Rattle.rules.specs.declared.kept.Work.TheVariants.{Rests as rests, Sends as sends}
 use Rattle.rules.specs.History.{begins_epoch, stops_epoch, ends_epoch, history_after, is_living, lives_in}
 use Rattle.rules.specs.Channels.{held_numbers}
-use Rattle.rules.specs.Kept.{actor_count, first_job, job_of, begun_of, begun_operation, operation_now, change_at}
-use Rattle.rules.specs.Work.{work_of_operation}
-use Rattle.rules.specs.After.{ended_by, begun_beside, begun_with, begun_exchanged, begun_failed, edit_of, fresh_begun, job_beside, jobs_beside, jobs_of_actor, own_job, decision_of_begun, decision_at, facts_of, refused_of, kept_after, kept_of}
-use Rattle.rules.specs.Due.{due, is_reset_due, tried_event, event_by_stage, is_lost, with_ended, with_card}
+use Rattle.rules.specs.Kept.{actor_count, first_job, job_of, begun_of, operation_now, change_at}
+use Rattle.rules.specs.After.{ended_by, begun_beside, begun_with, begun_exchanged, begun_failed, edit_of, job_beside, jobs_beside, jobs_of_actor, own_job, decision_of_begun, decision_at, facts_of, refused_of, kept_after, kept_of}
+use Rattle.rules.specs.Due.{due, is_reset_due, event_by_stage, is_lost, with_ended, with_card}
 use Rattle.rules.specs.Performed.{is_reset}
-use Rattle.rules.specs.Rules.{is_turn_of, operation_in_turn, turn_operation}
+use Rattle.rules.specs.Rules.{is_turn_of}
 use Rattle.performed.specs.Served.{serves}
 use Rattle.performed.specs.Followed.{is_tried, is_followed, are_followed}
 use Rattle.performed.proofs.CalmBehind.{actor_is, none_of_framework}
