@@ -255,7 +255,7 @@ module _ (s : Script) (w : World) (k : Kept) (g : Given s k) (known : Known s k)
       let here : StateOf k.turn k.chain k (numbers card) (Some a) (operation_now s a k.jobs) = subst (λ (o : Option ℕ). StateOf k.turn k.chain k (numbers card) o (operation_in_turn s k o)) actor st in
       let goes : StateOf (kept_after s l k).turn (kept_after s l k).chain (kept_after s l k) after (Some a) (operation_now s a k.jobs) = exchange_goes (operation_now s a k.jobs) refl here in
       let named : StateOf (kept_after s l k).turn (kept_after s l k).chain (kept_after s l k) after (Some a) (turn_operation s (kept_after s l k)) =
-          subst (λ (op : Option Operation). StateOf (kept_after s l k).turn (kept_after s l k).chain (kept_after s l k) after (Some a) op) (sym same_after) goes in
+      subst (λ (op : Option Operation). StateOf (kept_after s l k).turn (kept_after s l k).chain (kept_after s l k) after (Some a) op) (sym same_after) goes in
       subst (λ (o : Option ℕ). StateOf (kept_after s l k).turn (kept_after s l k).chain (kept_after s l k) after o (turn_operation s (kept_after s l k))) (sym (exchange_actor s k g known a c r ∙ actor)) named
 
 -- ---- an answer

@@ -5,7 +5,6 @@ use Rattle.std.proofs.lemmas.Bool.{and_parts}
 use Rattle.apdu.specs.Words.{has_value, or_else}
 use Rattle.apdu.specs.Apdu.{is_update_ins}
 use Rattle.card_model.specs.declared.world.World.{World}
-use Rattle.card_model.specs.declared.world.WorldEvent.TheVariants.{Insert}
 use Rattle.script_reader.specs.declared.types.Script.{Script}
 use Rattle.script_reader.specs.declared.types.Operation.{Operation}
 use Rattle.script_reader.specs.declared.types.Operation.TheVariants as operation
@@ -21,7 +20,6 @@ use Rattle.rules.specs.declared.kept.Job.{Job}
 use Rattle.rules.specs.declared.kept.Kept.{Kept}
 use Rattle.rules.specs.declared.kept.Outcome.{Outcome}
 use Rattle.rules.specs.declared.kept.Outcome.TheVariants as outcome
-use Rattle.rules.specs.declared.kept.Turn.{Turn}
 use Rattle.rules.specs.Channels.{handle_of, is_raw_ins}
 use Rattle.rules.specs.Kept.{begun_of, operation_now, job_of}
 use Rattle.rules.specs.After.{is_raw, kept_of}

@@ -244,5 +244,5 @@ module _ (k : Kept) (ns : List ℕ) (a handle n : ℕ) where
   opened_right living free right =
       let lives : is_living_handle k.history given ≡ true = ap (λ (b : Bool). b && (k.history.epoch == k.history.epoch)) living ∙ eq-eqb k.history.epoch k.history.epoch refl in
       let same : held_numbers k.history (with_handle given k.handles) ≡ held_in k ++ n ∷ [] =
-          ap (λ (hs : List Handle). held_numbers k.history (hs ++ given ∷ [])) (none_left (is_handle_of a handle) k.handles free) ∙ held_added k.history k.handles given lives in
+      ap (λ (hs : List Handle). held_numbers k.history (hs ++ given ∷ [])) (none_left (is_handle_of a handle) k.handles free) ∙ held_added k.history k.handles given lives in
       subst (λ (xs : List ℕ). Right ns xs) (sym same) (last_right (held_in k) right)

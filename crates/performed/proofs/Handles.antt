@@ -51,7 +51,7 @@ module _ (good : Handle → Bool) where
   all_filtered p [] g = refl
   all_filtered p (x ∷ hs) g = let q = and_parts (good x) (list_all good hs) g in kept_here (p x) x (filter p hs) q.0 (all_filtered p hs q.1)
 
-  all_added : (hs : List Handle) (h : Handle) → list_all good hs ≡ true → good h ≡ true → list_all good (hs ++ h ∷ []) ≡ true
+  pub all_added : (hs : List Handle) (h : Handle) → list_all good hs ≡ true → good h ≡ true → list_all good (hs ++ h ∷ []) ≡ true
   all_added [] h g e = and_from (good h) true e refl
   all_added (x ∷ hs) h g e = let q = and_parts (good x) (list_all good hs) g in and_from (good x) (list_all good (hs ++ h ∷ [])) q.0 (all_added hs h q.1 e)
 

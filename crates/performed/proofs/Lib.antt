@@ -51,6 +51,11 @@ pub mod ProgressMoves
 pub mod JobPlaces
 pub mod CalmKinds
 pub mod CalmEdits
+pub mod CalmEpochs
+pub mod CalmGiven
 pub mod CalmVerify
 pub mod CalmShown
 pub mod LastChange
+pub mod FreeNext
+pub mod FreePairs
+pub mod FreeReferences
