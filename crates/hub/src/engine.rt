@@ -9,6 +9,15 @@ use script::Script;
 use std::alloc::Global;
 use tracker::Tracker;
 
+/// A turn has so many lines at most, its mark among them.
+pub const LINES_OF_TURN: usize = 98;
+
+/// They take so many bytes at most, beside those of texts.
+pub const BYTES_OF_TURN: usize = 59_008;
+
+/// A publication takes so many bytes at most, beside its text.
+pub const BYTES_OF_PUBLICATION: usize = 32;
+
 /// The parts of a hub.
 #[derive(Drop)]
 pub struct Engine<S> {

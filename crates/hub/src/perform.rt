@@ -17,7 +17,7 @@ ghost use Rattle.hub.specs.Parts.{parts};
 ghost use Rattle.hub.specs.Performing.{is_holding, is_performed};
 ghost use Rattle.hub.specs.Settled.{BreaksBehind, HasOneMore, IsSince, IsUnderWay, KeepsAll, LeavesRoom, MayPublish, most_of_text};
 
-use crate::engine::{Engine, NoPlans};
+use crate::engine::{BYTES_OF_PUBLICATION, BYTES_OF_TURN, Engine, NoPlans};
 use crate::publish::text_of;
 use apdu::{Command, Memory, Text};
 use card_model::{Fault, ScriptedSlot, Slot, WorldEvent, WorldRefusal};
@@ -25,12 +25,6 @@ use planner::{begun_of, decision_at_begin};
 use report::{Answer, Line};
 use rules::{Decision, Due};
 use script::Script;
-
-/// A turn has so many lines at most, and they take so many bytes, beside those of texts.
-const BYTES_OF_TURN: usize = 59_008;
-
-/// A publication takes so many bytes at most, beside its text.
-const BYTES_OF_PUBLICATION: usize = 32;
 
 fn is_at(call: u64, fault: &Fault) -> bool
     ensures { result ≡ (fault.now.at == call) }
@@ -175,7 +169,8 @@ impl<S: ScriptedSlot> Engine<S> {
     /// The number of the operation that the actor has begun.
     fn begun(&self, actor: u8) -> u32
         requires { is_some (begun_in actor self.now.tracker.jobs) ≡ true }
-        ensures { has_value (λ (b : Begun). b.index == result) (begun_in actor self.now.tracker.jobs) ≡ true }
+        ensures { has_value (λ (b : Begun). b.index == result)
+            (begun_in actor self.now.tracker.jobs) ≡ true }
     {
         match begun_of(actor, &self.tracker.kept().jobs) {
             Some(begun) => begun.index,

@@ -13,7 +13,7 @@ ghost use Rattle.hub.specs.Hub as hub;
 ghost use Rattle.hub.specs.Parts.{parts};
 ghost use Rattle.hub.specs.Settled.{HasBroken, HasLine, HasTurned, IsPrepared, IsSettled, IsTied, KeepsAll};
 
-use crate::engine::{Engine, NoPlans};
+use crate::engine::{BYTES_OF_PUBLICATION, BYTES_OF_TURN, Engine, LINES_OF_TURN, NoPlans};
 use crate::publish::{family_ready, text_of};
 use apdu::{Memory, Text};
 use card_model::ScriptedSlot;
@@ -31,15 +31,6 @@ pub enum Turn {
     /// All operations of the actor are answered.
     Ended,
 }
-
-/// A turn has so many lines at most, its mark among them.
-const LINES_OF_TURN: usize = 98;
-
-/// They take so many bytes at most, beside those of texts.
-const BYTES_OF_TURN: usize = 59_008;
-
-/// A publication takes so many bytes at most, beside its text.
-const BYTES_OF_PUBLICATION: usize = 32;
 
 /// A mark takes so many bytes at most.
 const BYTES_OF_MARK: usize = 32;
