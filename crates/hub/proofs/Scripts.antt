@@ -28,6 +28,7 @@ use Rattle.report.specs.declared.answer.Answer.TheVariants as answer
 use Rattle.hub.specs.Performing.{is_holding}
 use Rattle.planner.specs.Room.{is_edit}
 use Rattle.performed.specs.Served.{serves}
+use Rattle.performed.specs.Followed.{is_slot_answer}
 use Rattle.performed.proofs.CalmSends.{ServedOp, served_at, served_now}
 use Rattle.performed.proofs.LegalScript.{IsPlain, family_known, is_family_or_none, plain_now}
 use Rattle.hub.specs.Ready.{family_by, family_next, family_ready, if_current}
@@ -97,6 +98,13 @@ gives_by given op h = refl
 pub gives_nothing : (given : Answer) (op : Option Operation) → is_holding given ≡ false → has_value (λ o. gives_holding o given) op ≡ false
 gives_nothing given None h = refl
 gives_nothing given (Some op) h = gives_by given op h
+
+-- the slot's answers give none
+pub slot_holds_nothing : (given : Answer) (P : Type 0) → is_slot_answer given ≡ true → is_holding given ≡ true → P
+slot_holds_nothing answer.SlotFull P h g = absurd (true≢false (sym g))
+slot_holds_nothing answer.SlotEmpty P h g = absurd (true≢false (sym g))
+slot_holds_nothing answer.ArmFull P h g = absurd (true≢false (sym g))
+slot_holds_nothing given P h g = absurd (true≢false (sym h))
 
 -- ---- families
 

@@ -1,5 +1,5 @@
 -- A turn from line to line.
-use Rattle.std.proofs.Common.{◌≡◌, ◌≤◌, ◌<◌, ◌+◌, ◌*◌, ◌++◌, inl, inr, ℕ, suc, not, Bool, true, false, nat_lt, List, [], ◌∷◌, length, Option, Some, None, is_some, OnErr, Result, Ok, Err, refl, sym, ap, ◌∙◌, subst, true≢false, arith, ltb-true, ltb-false, append_assoc}
+use Rattle.std.proofs.Common.{◌≡◌, ◌≤◌, ◌<◌, ◌+◌, ◌*◌, ◌++◌, inl, inr, ℕ, suc, not, Bool, true, false, nat_lt, List, [], ◌∷◌, length, Option, Some, None, is_some, IsOk, OnOk, OnErr, Result, Ok, Err, refl, sym, ap, ◌∙◌, subst, true≢false, arith, ltb-true, ltb-false, append_assoc}
 use Rattle.std.specs.Prelude.{option_map}
 use Rattle.std.proofs.lemmas.Bool.{and_parts}
 use Rattle.families.specs.Contents.{family_count}
@@ -233,6 +233,16 @@ other_performed (begin i) e n = refl
 pub always_err : {T E : Type 0} (r : Result T E) (P : Type 0) → P → OnErr r P
 always_err (Ok x) P h = tt
 always_err (Err e) P h = h
+
+pub on_ok : {T E : Type 0} (r : Result T E) (P Q : Type 0) → OnOk r P → (P → Q) → OnOk r Q
+on_ok (Ok x) P Q h f = f h
+on_ok (Err e) P Q h f = tt
+
+-- where there is room unless the test holds
+pub unless_room : {T E : Type 0} (r : Result T E) (b : Bool) (P : Type 0) → (b ≡ false → IsOk r) → (b ≡ true → P) → OnErr r P
+unless_room (Ok x) b P room f = tt
+unless_room (Err e) true P room f = f refl
+unless_room (Err e) false P room f = absurd (true≢false (sym (room refl)))
 
 pub turned : (p q : Parts) (a : ℕ) (text : Option (List ℕ)) → StaysWith p q → IsTurning a p.lines.lines text q → ends_turn (due q.script q.kept) ≡ true → HasTurned a p q
 turned p q a text h t e = record { stays = h; settled = record { tied = t.tied; ends = e }; turn = t.turn }
