@@ -9,6 +9,7 @@ pub mod Refusals
 pub mod Gives
 pub mod Tries
 pub mod Turning
+pub mod DueSoFar
 pub mod Idle
 pub mod Calm
 pub mod Steps

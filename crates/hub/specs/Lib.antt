@@ -1,4 +1,5 @@
 pub mod Hub
+pub mod DueSoFar
 pub mod Parts
 pub mod Settled
 pub mod Ready

@@ -8,6 +8,7 @@ ghost use Rattle.rules.specs.Work.{is_finished as is_run_finished, is_idle as is
 ghost use Rattle.rules.specs.Legal.{legal};
 ghost use Rattle.performed.specs.Served.{serves};
 ghost use Rattle.performed.specs.Placed.{are_placed, is_turn_allowed};
+ghost use Rattle.hub.specs.DueSoFar.{IsDueSoFar};
 ghost use Rattle.hub.specs.Hub.{ChangesNothingOrBreaks, IsAtRest, TakesTurn, kept_now, turn_answer};
 
 use crate::engine::Engine;
@@ -153,6 +154,13 @@ impl<S: ScriptedSlot + Drop> Hub<S> {
         self.engine.prepare_mark()?;
         self.engine.mark(actor);
         Ok(())
+    }
+
+    /// The lines of a hub that is whole are due, whole turns of them, and show what its slot gave. Nothing is done by it: the clause is the law.
+    pub fn lines_are_due(&self)
+        ensures { self.now.whole ≡ true → IsDueSoFar self.now }
+    {
+        let _ = &self.whole;
     }
 
     /// The report of a run that is finished. It is legal where the slot tells its world.

@@ -1,4 +1,6 @@
-pub mod Fits
-pub mod Pasts
-pub mod Steps
+pub mod Marks
+pub mod Left
+pub mod Rounds
+pub mod Taken
 pub mod Turns
+pub mod Ends

@@ -1,13 +1,4 @@
-pub mod Families
-pub mod First
-pub mod History
-pub mod Turns
-pub mod Chains
-pub mod Readings
-pub mod Open
-pub mod Shown
-pub mod Legal
-pub mod Texts
-pub mod Run
+pub mod Budget
+pub mod Replay
+pub mod Rounds
 pub mod Top
-pub mod Worked

@@ -10,15 +10,13 @@ use Rattle.script_reader.specs.Reading.{Refusal}
 use Rattle.script_reader.specs.Words.{part_word, why_word}
 use Rattle.script_reader.specs.Scripts.{script_of_bytes}
 use Rattle.streams.specs.Streams.{SourceValue, SinkValue, StreamsValue, HasMore, IsRead, WritesWhole, WritesFront, Wrote}
-use Rattle.uicc_replay.specs.declared.report.Mode.TheVariants.{Replay}
-use Rattle.uicc_replay.specs.declared.report.Report.{Report}
+use Rattle.report.specs.declared.lines.Report.{Report}
+use Rattle.report.specs.Texts.{report_text}
+use Rattle.performed.specs.Served.{serves}
+use Rattle.uicc_replay.specs.Replay.{IsReplay, IsSpent}
 use Rattle.uicc_replay.specs.declared.top.Ending.{Ending}
-use Rattle.uicc_replay.specs.declared.top.Ending.TheVariants.{Usage, TooLong, Refused, ReadFault, Memory, Replayed}
+use Rattle.uicc_replay.specs.declared.top.Ending.TheVariants.{Usage, TooLong, Refused, ReadFault, Spent, Memory, Replayed}
 use Rattle.uicc_replay.specs.declared.top.Outcome.{Outcome}
-use Rattle.uicc_replay.specs.declared.first.FirstScript.{FirstScript}
-use Rattle.uicc_replay.specs.First.{served_script}
-use Rattle.uicc_replay.specs.Legal.{legal}
-use Rattle.uicc_replay.specs.Texts.{report_text}
 
 -- ---- the words
 
@@ -43,6 +41,10 @@ later_line = codes "refused other 0 later\n"
 abbrev pub refused_line : Refusal → List ℕ
 refused_line r = codes "refused " ++ part_word r.part ++ codes " " ++ decimal r.index ++ codes " " ++ why_word r.why ++ codes "\n"
 
+-- so many events, by which the budget is spent
+abbrev pub budget_line : ℕ → List ℕ
+budget_line events = codes "budget " ++ decimal events ++ codes "\n"
+
 unfoldable pub read_fault_line : List ℕ
 read_fault_line = codes "read fault\n"
 
@@ -60,13 +62,14 @@ line_of status =
 
 -- the statuses that the program has
 abbrev pub is_status : ℕ → Bool
-is_status status = is_one_of status (0 ∷ 2 ∷ 3 ∷ 4 ∷ 5 ∷ 8 ∷ 9 ∷ [])
+is_status status = is_one_of status (0 ∷ 2 ∷ 3 ∷ 4 ∷ 5 ∷ 6 ∷ 8 ∷ 9 ∷ [])
 
 abbrev pub piece_of : Ending → List ℕ
 piece_of Usage = usage_line
 piece_of TooLong = too_long_line
 piece_of (Refused line) = line
 piece_of ReadFault = read_fault_line
+piece_of (Spent line) = line
 piece_of Memory = memory_line
 piece_of (Replayed report text) = text
 
@@ -75,6 +78,7 @@ status_of Usage = 2
 status_of TooLong = 8
 status_of (Refused line) = 3
 status_of ReadFault = 4
+status_of (Spent line) = 6
 status_of Memory = 9
 status_of (Replayed report text) = 0
 
@@ -83,6 +87,7 @@ report_of Usage = None
 report_of TooLong = None
 report_of (Refused line) = None
 report_of ReadFault = None
+report_of (Spent line) = None
 report_of Memory = None
 report_of (Replayed report text) = Some report
 
@@ -94,37 +99,65 @@ script_limit = 8388608
 
 -- ---- causes
 
--- a script that uses more than is served so far is refused too
-abbrev pub line_unless_served : Option FirstScript → Option (List ℕ)
-line_unless_served None = Some later_line
-line_unless_served (Some served) = None
+-- a script that is not served is refused too
+abbrev pub line_unless : Bool → Option (List ℕ)
+line_unless false = Some later_line
+line_unless true = None
 
 abbrev pub line_of_reading : Result Script Refusal → Option (List ℕ)
 line_of_reading (Err refusal) = Some (refused_line refusal)
-line_of_reading (Ok s) = line_unless_served (served_script s)
+line_of_reading (Ok s) = line_unless (serves s)
 
 -- the line that tells why bytes are not replayed, if they are not
 abbrev pub refusal_line : List ℕ → Option (List ℕ)
 refusal_line bytes = line_of_reading (script_of_bytes bytes)
-
--- the mode is replay, and the report is legal
-pub record IsLegalReplay (r : Report) : Type 0 where
-  pub mode : r.mode ≡ Replay
-  pub legal : legal r ≡ true
 
 -- the ending of a line that tells why bytes are not replayed, where memory was left for it
 abbrev pub IsDueOfLine : Result Text MemoryError → Ending → Type 0
 IsDueOfLine (Ok line) e = e ≡ Refused line
 IsDueOfLine (Err error) e = e ≡ Memory
 
+-- the line tells by how many events the budget of a script is spent
+pub record TellsSpent (s : Script) (line : List ℕ) : Type 0 where
+  pub events : ℕ
+  pub spent : IsSpent s events
+  pub told : line ≡ budget_line events
+
+-- the ending of a run whose budget is spent by so many events
+abbrev pub IsDueOfBudget : ℕ → Ending → Type 0
+IsDueOfBudget events Usage = ⊥
+IsDueOfBudget events TooLong = ⊥
+IsDueOfBudget events (Refused line) = ⊥
+IsDueOfBudget events ReadFault = ⊥
+IsDueOfBudget events (Spent line) = line ≡ budget_line events
+IsDueOfBudget events Memory = Unit {0}
+IsDueOfBudget events (Replayed report text) = ⊥
+
+-- the ending of a report
+abbrev pub IsDueOfReport : Report → Ending → Type 0
+IsDueOfReport r Usage = ⊥
+IsDueOfReport r TooLong = ⊥
+IsDueOfReport r (Refused line) = ⊥
+IsDueOfReport r ReadFault = ⊥
+IsDueOfReport r (Spent line) = ⊥
+IsDueOfReport r Memory = Unit {0}
+IsDueOfReport r (Replayed report text) = (report ≡ r) × (text ≡ report_text report)
+
 -- the ending of a script
 abbrev pub IsDueOfScript : Script → Ending → Type 0
 IsDueOfScript s Usage = ⊥
 IsDueOfScript s TooLong = ⊥
-IsDueOfScript s (Refused line) = line_unless_served (served_script s) ≡ Some line
+IsDueOfScript s (Refused line) = line_unless (serves s) ≡ Some line
 IsDueOfScript s ReadFault = ⊥
+IsDueOfScript s (Spent line) = TellsSpent s line
 IsDueOfScript s Memory = Unit {0}
-IsDueOfScript s (Replayed report text) = (report.script ≡ s) × IsLegalReplay report × (text ≡ report_text report)
+IsDueOfScript s (Replayed report text) = (report.script ≡ s) × IsReplay report × (text ≡ report_text report)
+
+-- the bytes are a script, and the line tells by how many events its budget is spent
+pub record TellsSpentOf (bytes line : List ℕ) : Type 0 where
+  pub script : Script
+  pub read : script_of_bytes bytes ≡ Ok script
+  pub told : TellsSpent script line
 
 -- the ending of bytes that were read
 abbrev pub IsDueOfBytes : List ℕ → Ending → Type 0
@@ -132,8 +165,9 @@ IsDueOfBytes bytes Usage = ⊥
 IsDueOfBytes bytes TooLong = ⊥
 IsDueOfBytes bytes (Refused line) = refusal_line bytes ≡ Some line
 IsDueOfBytes bytes ReadFault = ⊥
+IsDueOfBytes bytes (Spent line) = TellsSpentOf bytes line
 IsDueOfBytes bytes Memory = Unit {0}
-IsDueOfBytes bytes (Replayed report text) = (script_of_bytes bytes ≡ Ok report.script) × IsLegalReplay report × (text ≡ report_text report)
+IsDueOfBytes bytes (Replayed report text) = (script_of_bytes bytes ≡ Ok report.script) × IsReplay report × (text ≡ report_text report)
 
 -- bytes were read of which this is the ending
 pub record IsDueOfRead (before after : SourceValue) (e : Ending) : Type 0 where
@@ -147,6 +181,7 @@ IsDueOfSource before after Usage = ⊥
 IsDueOfSource before after TooLong = HasMore script_limit before after
 IsDueOfSource before after (Refused line) = IsDueOfRead before after (Refused line)
 IsDueOfSource before after ReadFault = Rose before.faults after.faults
+IsDueOfSource before after (Spent line) = IsDueOfRead before after (Spent line)
 IsDueOfSource before after Memory = Unit {0}
 IsDueOfSource before after (Replayed report text) = IsDueOfRead before after (Replayed report text)
 
@@ -167,7 +202,7 @@ pub record IsReplayed (before after : StreamsValue) (r : Report) : Type 0 where
   pub bytes : List ℕ
   pub read : IsRead script_limit before.source after.source bytes
   pub script : script_of_bytes bytes ≡ Ok r.script
-  pub replay : IsLegalReplay r
+  pub replay : IsReplay r
   pub text : Wrote before after (report_text r)
 
 -- the line was written that tells why the bytes that were read are not replayed
@@ -176,6 +211,14 @@ pub record IsRefused (before after : StreamsValue) : Type 0 where
   pub read : IsRead script_limit before.source after.source bytes
   pub line : List ℕ
   pub told : refusal_line bytes ≡ Some line
+  pub text : Wrote before after line
+
+-- the line was written that tells by how many events the budget is spent of the script that was read
+pub record IsBudgetSpent (before after : StreamsValue) : Type 0 where
+  pub bytes : List ℕ
+  pub read : IsRead script_limit before.source after.source bytes
+  pub line : List ℕ
+  pub told : TellsSpentOf bytes line
   pub text : Wrote before after line
 
 -- a front was written of what an ending writes whose cause stood

@@ -1,10 +1,8 @@
 //! Replays a script of a card and its users through the framework, and writes the report.
 #![tactic(auto)]
 
-mod first;
-mod law;
-mod report;
-mod run;
+mod replay;
+mod served;
 mod text;
 mod top;
 

@@ -1,14 +1,15 @@
 // All that the program does, over any source and sink.
-ghost use Rattle.std.specs.Prelude.{◌≡◌, ◌≢◌, ◌⊎◌, false, IsTrue, IsSomeAnd, IfSome, None};
+ghost use Rattle.std.specs.Prelude.{◌≡◌, ◌≢◌, ◌⊎◌, true, false, IsTrue, IsSomeAnd, IfSome, None};
 ghost use Rattle.apdu.specs.Stream.{Rose};
 ghost use Rattle.streams.specs.Streams.{HasMore, Wrote};
-ghost use Rattle.uicc_replay.specs.Top.{is_replay, line_of, is_status, script_limit, IsDue, IsDueOfBytes, IsDueOfScript, IsDueOfLine, IsRefused, IsReplayed, WritesPart, Writes, Ends};
+ghost use Rattle.script_reader.specs.Rules.{keeps_rules};
+ghost use Rattle.uicc_replay.specs.Top.{is_replay, line_of, is_status, script_limit, IsDue, IsDueOfBytes, IsDueOfScript, IsDueOfReport, IsDueOfBudget, IsDueOfLine, IsRefused, IsReplayed, IsBudgetSpent, WritesPart, Writes, Ends};
 
-use crate::first::served_script;
-use crate::report::{Mode, Report};
-use crate::run::replayed_lines;
-use crate::text::{refused_text, write_report};
-use apdu::{Memory, Sink, Source, Text};
+use crate::replay::{Replayed, replay};
+use crate::served::serves;
+use crate::text::{budget_text, refused_text};
+use apdu::{Bytes, Memory, Sink, Source, Text};
+use report::{Report, write_report};
 use script::{Script, ScriptError, read_script};
 use std::alloc::Global;
 use streams::{Input, Streams, read_all};
@@ -31,10 +32,12 @@ pub enum Ending {
     Refused { line: Text },
     /// The source failed.
     ReadFault,
+    /// The budget is spent, and the run is not finished; this line tells how many events it has.
+    Spent { line: Text },
     /// Memory ran out.
     Memory,
     /// The script was replayed; this is the report and its text.
-    Replayed { report: Report, text: Text },
+    Replayed { report: Report, text: Bytes },
 }
 
 /// The most bytes that a script may have.
@@ -63,28 +66,40 @@ fn ending_of_line(line: Result<Text, Memory>) -> Ending
     }
 }
 
+/// The ending of a run whose budget is spent by so many events.
+fn ending_of_budget(alloc: Global, events: u64) -> Ending
+    ensures { IsDueOfBudget events result }
+{
+    match budget_text(alloc, events) {
+        Ok(line) => Ending::Spent { line },
+        Err(_) => Ending::Memory,
+    }
+}
+
+/// The ending of a report.
+fn ending_of_report(alloc: Global, report: Report) -> Ending
+    ensures { IsDueOfReport report result }
+{
+    match write_report(alloc, &report) {
+        Ok(text) => Ending::Replayed { report, text },
+        Err(_) => Ending::Memory,
+    }
+}
+
 /// The ending of a script.
 #[tactic(auto, unfolding(crate::specs::Top::later_line))]
 fn ending_of_script(alloc: Global, script: Script) -> Ending
+    requires { keeps_rules script ≡ true }
     ensures { IsDueOfScript script result }
 {
-    let served = match served_script(alloc, &script) {
-        Ok(Some(served)) => served,
-        Ok(None) => return ending_of_line(Text::from_str(alloc, "refused other 0 later\n")),
-        Err(_) => return Ending::Memory,
-    };
-    let Ok(lines) = replayed_lines(alloc, served) else {
-        return Ending::Memory;
-    };
-    let report = Report {
-        script,
-        mode: Mode::Replay,
-        lines,
-    };
-    let Ok(text) = write_report(alloc, &report) else {
-        return Ending::Memory;
-    };
-    Ending::Replayed { report, text }
+    if !serves(&script) {
+        return ending_of_line(Text::from_str(alloc, "refused other 0 later\n"));
+    }
+    match replay(alloc, script) {
+        Ok(Replayed::Finished(report)) => ending_of_report(alloc, report),
+        Ok(Replayed::Spent { events }) => ending_of_budget(alloc, events),
+        Err(_) => Ending::Memory,
+    }
 }
 
 /// The ending of bytes that were read.
@@ -155,28 +170,36 @@ fn write_ending<S: Source, K: Sink>(streams: &mut Streams<S, K>, ending: Ending)
         Ending::TooLong => write_piece(streams, 8, None, b"too long\n"),
         Ending::Refused { line } => write_piece(streams, 3, None, line.as_str().as_bytes()),
         Ending::ReadFault => write_piece(streams, 4, None, b"read fault\n"),
+        Ending::Spent { line } => write_piece(streams, 6, None, line.as_str().as_bytes()),
         Ending::Memory => write_piece(streams, 9, None, b"memory\n"),
         Ending::Replayed { report, text } => {
-            write_piece(streams, 0, Some(report), text.as_str().as_bytes())
+            write_piece(streams, 0, Some(report), text.as_slice())
         }
     }
 }
 
-/// All that the program does: replays the script that the source gives, where the words are the one
-/// word `replay`, and writes the report, or the line that says what went wrong.
+/// All that the program does, where the words are the one word `replay`: it reads a script to its end,
+/// runs it over simulated cards, in the order of its schedule and then round, and writes the report of
+/// the run, which is legal. Status 0 says so: the source's bytes are a script, the report that is handed
+/// out is of that script and of mode replay, it breaks no rule, none of its turns began once the budget
+/// was spent, and its text was written whole. Each other status says what stood in the way, and its
+/// line was written: bytes that are no script, or a script of what is not served so far (3), a run that
+/// spent its budget before it was finished (6), more bytes than a script may have (8), words that are
+/// no command (2), a source (4) or a sink (5) that failed, or want of memory (9).
 pub fn top<S: Source, K: Sink>(
     alloc: Global,
     words: &[String],
     streams: &mut Streams<S, K>,
 ) -> Outcome
     // What each status says. 0: the report is the legal replay of all the source's bytes, and its
-    // text was written.
+    // text was written. 6: a legal run of them has the budget's events, and is not finished.
     ensures done { result.status ≡ 0
         → IsSomeAnd result.report (IsReplayed streams.old streams.new) }
     ensures usage { result.status ≡ 2 → is_replay words.now ≡ false }
     ensures refused { result.status ≡ 3 → IsRefused streams.old streams.new }
     ensures read { result.status ≡ 4 → Rose streams.old.source.faults streams.new.source.faults }
     ensures write { result.status ≡ 5 → Rose streams.old.sink.faults streams.new.sink.faults }
+    ensures spent { result.status ≡ 6 → IsBudgetSpent streams.old streams.new }
     ensures too_long { result.status ≡ 8
         → HasMore script_limit streams.old.source streams.new.source }
     ensures known { IsTrue (is_status result.status) }

@@ -1,0 +1,4 @@
+mod Lists
+mod Counts
+mod Contents
+mod Steps

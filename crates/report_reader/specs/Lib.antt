@@ -1,0 +1,6 @@
+pub mod Reads
+pub mod Words
+pub mod Content
+pub mod Answers
+pub mod Lines
+pub mod Reports

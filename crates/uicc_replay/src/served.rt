@@ -1,0 +1,34 @@
+// The scripts that are served so far.
+ghost use Rattle.std.specs.Prelude.{◌≡◌};
+ghost use Rattle.std.specs.List.{list_all};
+ghost use Rattle.performed.specs.Served.{is_served, serves};
+
+use script::{ActorSpecs, Operation, Operations, Script};
+
+fn is_served(operation: &Operation) -> bool
+    ensures { result ≡ is_served operation.now }
+{
+    matches!(
+        operation,
+        Operation::Insert { .. } | Operation::Load { .. } | Operation::Look
+    )
+}
+
+fn are_served(operations: &Operations) -> bool
+    ensures { result ≡ list_all is_served operations.now }
+{
+    operations.as_slice().iter().all(is_served)
+}
+
+fn are_actors_served(actors: &ActorSpecs) -> bool
+    ensures { result ≡ list_all (list_all is_served) actors.now }
+{
+    actors.as_slice().iter().all(are_served)
+}
+
+/// Whether a script is served: its actors insert cards, load and look, and no call fails.
+pub fn serves(script: &Script) -> bool
+    ensures { result ≡ serves script.now }
+{
+    are_actors_served(&script.actors) && script.faults.is_empty()
+}
