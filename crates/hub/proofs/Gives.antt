@@ -10,16 +10,21 @@ use Rattle.report.specs.declared.answer.Answer.{Answer}
 use Rattle.report.specs.declared.answer.Answer.TheVariants as answer
 use Rattle.report.specs.Room.{most_of_answer}
 use Rattle.rules.specs.declared.due.Due.TheVariants.{Give as give}
+use Rattle.rules.specs.declared.holdings.Handle.{Handle}
 use Rattle.rules.specs.declared.kept.Begun.{Begun}
 use Rattle.rules.specs.declared.kept.Job.{Job}
 use Rattle.rules.specs.declared.kept.Kept.{Kept}
 use Rattle.rules.specs.declared.kept.Outcome.{Outcome}
 use Rattle.rules.specs.declared.kept.Outcome.TheVariants as outcome
 use Rattle.rules.specs.Kept.{begun_of, job_of, operation_now}
-use Rattle.rules.specs.Due.{answer_of, answer_of_outcome, is_lost, answer_of_actor, answer_of_begun, due, due_answer, due_by_command, due_by_end, due_by_event, due_by_reset, due_command, is_reset_due, loaded, outcome_answer, tried_event, with_card, with_ended}
+use Rattle.rules.specs.Due.{answer_of, answer_of_outcome, is_lost, answer_of_actor, answer_of_begun, due, due_answer, due_by_command, due_by_end, due_by_event, due_by_reset, due_command, is_reset_due, loaded, on_handle, outcome_answer, raw_on_handle, seen_now, tried_event, with_card, with_ended}
 use Rattle.performed.specs.Served.{is_served, serves}
 use Rattle.performed.proofs.CalmSends.{ServedOp, served_now}
 use Rattle.performed.proofs.TurnsSays.{says_of}
+use Rattle.rules.specs.Channels.{handle_of, is_raw_ins}
+use Rattle.rules.specs.Sessions.{has_session}
+use Rattle.hub.specs.Performing.{is_holding}
+use Rattle.hub.specs.Settled.{IsSince}
 
 -- ---- the operation has begun
 
@@ -54,66 +59,111 @@ module _ (s : Script) (k : Kept) (x : Answer) where
 pub gives_untried : (s : Script) (k : Kept) (x : Answer) → due s k ≡ give x → tried_event k ≡ None
 gives_untried s k x h = by_end s k x k.turn.ended h
 
--- ---- it is short
+-- ---- it is short, and gives a channel or a session only where the turn's commands came to something
 
-Short : Option Answer → Type 0
-Short None = Unit {0}
-Short (Some x) = most_of_answer x ≤ 608
+record IsGiven (came : Bool) (x : Answer) : Type 0 where
+  short : most_of_answer x ≤ 608
+  holds : is_holding x ≡ true → came ≡ true
 
-came_short : (o : Outcome) → most_of_answer (answer_of_outcome o) ≤ 608
-came_short (outcome.Status sw n) = lit≤ tt
-came_short (outcome.Loop n) = lit≤ tt
-came_short (outcome.BadFcp n) = lit≤ tt
-came_short (outcome.Opened channel) = lit≤ tt
-came_short (outcome.Exhausted n) = lit≤ tt
-came_short (outcome.Raw response) = lit≤ tt
-came_short outcome.Closed = lit≤ tt
-came_short outcome.Verified = lit≤ tt
-came_short outcome.Polled = lit≤ tt
+Given : Bool → Option Answer → Type 0
+Given came None = Unit {0}
+Given came (Some x) = IsGiven came x
 
-outcome_short : (o : Option Outcome) → Short (option_map answer_of_outcome o)
-unfolding Short
-outcome_short None = tt
-outcome_short (Some o) = came_short o
+-- an answer that gives nothing to hold
+plain : (came : Bool) (x : Answer) → most_of_answer x ≤ 608 → is_holding x ≡ false → IsGiven came x
+plain came x short no = record { short = short; holds = λ h. absurd (true≢false (sym h ∙ no)) }
 
-loaded_short : (published : Option ℕ) (other : Option Answer) → Short other → Short (or_else (loaded published) other)
-unfolding Short
-loaded_short None other h = h
-loaded_short (Some n) other h = lit≤ tt
+came_given : (o : Outcome) → IsGiven true (answer_of_outcome o)
+came_given (outcome.Status sw n) = record { short = lit≤ tt; holds = λ h. refl }
+came_given (outcome.Loop n) = record { short = lit≤ tt; holds = λ h. refl }
+came_given (outcome.BadFcp n) = record { short = lit≤ tt; holds = λ h. refl }
+came_given (outcome.Opened channel) = record { short = lit≤ tt; holds = λ h. refl }
+came_given (outcome.Exhausted n) = record { short = lit≤ tt; holds = λ h. refl }
+came_given (outcome.Raw response) = record { short = lit≤ tt; holds = λ h. refl }
+came_given outcome.Closed = record { short = lit≤ tt; holds = λ h. refl }
+came_given outcome.Verified = record { short = lit≤ tt; holds = λ h. refl }
+came_given outcome.Polled = record { short = lit≤ tt; holds = λ h. refl }
 
-ended_short : (epoch : ℕ) (ended : Option ℕ) (unsure : Bool) (other : Option Answer) → Short other → Short (with_ended epoch ended unsure other)
-unfolding Short
-ended_short epoch None unsure other h = h
-ended_short epoch (Some n) unsure other h = lit≤ tt
+outcome_given : (o : Option Outcome) → Given (is_some o) (option_map answer_of_outcome o)
+unfolding Given
+outcome_given None = tt
+outcome_given (Some o) = came_given o
 
-card_short : (epoch : Option ℕ) (b : Begun) (other : Option Answer) → Short other → Short (with_card epoch b other)
-unfolding Short
-card_short None b other h = lit≤ tt
-card_short (Some epoch) b other h = ended_short epoch b.ended (is_lost b.ended b.editing.lost) other h
+module _ (came : Bool) where
+  loaded_given : (published : Option ℕ) (other : Option Answer) → Given came other → Given came (or_else (loaded published) other)
+  unfolding Given
+  loaded_given None other h = h
+  loaded_given (Some n) other h = plain came (answer.Loaded n) (lit≤ tt) refl
 
-moved_short : (happened : Bool) → Short (if happened then Some answer.Moved else None)
-unfolding Short
-moved_short true = lit≤ tt
-moved_short false = tt
+  ended_given : (epoch : ℕ) (ended : Option ℕ) (unsure : Bool) (other : Option Answer) → Given came other → Given came (with_ended epoch ended unsure other)
+  unfolding Given
+  ended_given epoch None unsure other h = h
+  ended_given epoch (Some n) unsure other h = plain came (answer.EpochEnded epoch n unsure) (lit≤ tt) refl
 
-operation_short : (k : Kept) (a : ℕ) (job : Job) (b : Begun) (op : Operation) → is_served op ≡ true → Short (answer_of k a job b op)
-unfolding Short
-operation_short k a job b (operation.Insert card) v = moved_short k.turn.happened
-operation_short k a job b (operation.Load f) v = card_short b.epoch b (or_else (loaded k.turn.published) (outcome_answer k.turn)) (loaded_short k.turn.published (outcome_answer k.turn) (outcome_short k.turn.outcome))
-operation_short k a job b operation.Look v = lit≤ tt
-operation_short k a job b op v = absurd (true≢false (sym v))
+  card_given : (epoch : Option ℕ) (b : Begun) (other : Option Answer) → Given came other → Given came (with_card epoch b other)
+  unfolding Given
+  card_given None b other h = plain came answer.Absent (lit≤ tt) refl
+  card_given (Some epoch) b other h = ended_given epoch b.ended (is_lost b.ended b.editing.lost) other h
 
-begun_short : (k : Kept) (a : ℕ) (b : Option Begun) (op : Option Operation) → ServedOp op → Short (answer_of_begun k a b op)
-unfolding Short
-begun_short k a (Some b) (Some op) v = operation_short k a (job_of a k.jobs) b op v
-begun_short k a (Some b) None v = tt
-begun_short k a None op v = tt
+  handle_given : (handle : ℕ) (o : Option Handle) (other : Option Answer) → Given came other → Given came (on_handle handle o other)
+  unfolding Given
+  handle_given handle None other h = plain came (answer.NotHeldRef handle) (lit≤ tt) refl
+  handle_given handle (Some x) other h = ended_given x.epoch x.ended false other h
 
-actor_short : (s : Script) (k : Kept) (o : Option ℕ) → serves s ≡ true → Short (answer_of_actor s k o)
-unfolding Short
-actor_short s k None v = tt
-actor_short s k (Some a) v = begun_short k a (begun_of a k.jobs) (operation_now s a k.jobs) (served_now s a k.jobs v)
+  allowed_given : (allowed : Bool) (ins : ℕ) (other : Option Answer) → Given came other → Given came (if allowed then other else Some (answer.RawRefused ins))
+  unfolding Given
+  allowed_given true ins other h = h
+  allowed_given false ins other h = plain came (answer.RawRefused ins) (lit≤ tt) refl
+
+  raw_given : (handle : ℕ) (o : Option Handle) (ins : ℕ) (other : Option Answer) → Given came other → Given came (raw_on_handle handle o ins other)
+  unfolding Given
+  raw_given handle None ins other h = plain came (answer.NotHeldRef handle) (lit≤ tt) refl
+  raw_given handle (Some x) ins other h = allowed_given (is_raw_ins ins) ins (with_ended x.epoch x.ended false other) (ended_given x.epoch x.ended false other h)
+
+  session_given : (held : Bool) (key : ℕ) → Given came (if held then Some answer.Ended else Some (answer.NotHeldKey key))
+  unfolding Given
+  session_given true key = plain came answer.Ended (lit≤ tt) refl
+  session_given false key = plain came (answer.NotHeldKey key) (lit≤ tt) refl
+
+  moved_given : (happened : Bool) → Given came (if happened then Some answer.Moved else None)
+  unfolding Given
+  moved_given true = plain came answer.Moved (lit≤ tt) refl
+  moved_given false = tt
+
+came : Kept → Bool
+came k = is_some k.turn.outcome
+
+operation_given : (k : Kept) (a : ℕ) (job : Job) (b : Begun) (op : Operation) → is_served op ≡ true → Given (came k) (answer_of k a job b op)
+unfolding Given came
+operation_given k a job b (operation.Insert card) v = moved_given (came k) k.turn.happened
+operation_given k a job b (operation.Load f) v = card_given (came k) b.epoch b (or_else (loaded k.turn.published) (outcome_answer k.turn)) (loaded_given (came k) k.turn.published (outcome_answer k.turn) (outcome_given k.turn.outcome))
+operation_given k a job b (operation.OpenChannel handle aid) v = card_given (came k) b.epoch b (outcome_answer k.turn) (outcome_given k.turn.outcome)
+operation_given k a job b (operation.Raw handle apdu) v = raw_given (came k) handle (handle_of a handle k.handles) apdu.ins (outcome_answer k.turn) (outcome_given k.turn.outcome)
+operation_given k a job b (operation.Close handle) v = handle_given (came k) handle (handle_of a handle k.handles) (outcome_answer k.turn) (outcome_given k.turn.outcome)
+operation_given k a job b (operation.Verify key pin) v = card_given (came k) b.epoch b (outcome_answer k.turn) (outcome_given k.turn.outcome)
+operation_given k a job b (operation.End key) v = session_given (came k) (has_session a key k.sessions) key
+operation_given k a job b operation.Look v = plain (came k) (answer.Look (seen_now k)) (lit≤ tt) refl
+operation_given k a job b op v = absurd (true≢false (sym v))
+
+begun_given : (k : Kept) (a : ℕ) (b : Option Begun) (op : Option Operation) → ServedOp op → Given (came k) (answer_of_begun k a b op)
+unfolding Given
+begun_given k a (Some b) (Some op) v = operation_given k a (job_of a k.jobs) b op v
+begun_given k a (Some b) None v = tt
+begun_given k a None op v = tt
+
+actor_given : (s : Script) (k : Kept) (o : Option ℕ) → serves s ≡ true → Given (came k) (answer_of_actor s k o)
+unfolding Given
+actor_given s k None v = tt
+actor_given s k (Some a) v = begun_given k a (begun_of a k.jobs) (operation_now s a k.jobs) (served_now s a k.jobs v)
+
+due_given : (s : Script) (k : Kept) (x : Answer) → serves s ≡ true → due s k ≡ give x → IsGiven (came k) x
+unfolding Given
+due_given s k x v h = let given : due_answer s k ≡ Some x = says_of s k (give x) h in subst (Given (came k)) given (actor_given s k k.turn.actor v)
 
 pub gives_short : (s : Script) (k : Kept) (x : Answer) → serves s ≡ true → due s k ≡ give x → most_of_answer x ≤ 608
-unfolding Short
-gives_short s k x v h = let given : due_answer s k ≡ Some x = says_of s k (give x) h in subst Short given (actor_short s k k.turn.actor v)
+gives_short s k x v h = (due_given s k x v h).short
+
+-- behind an event of the turn, where it gives a channel or a session
+pub gives_behind : (s : Script) (k : Kept) (x : Answer) (events : ℕ) → serves s ≡ true → due s k ≡ give x → IsSince events k → is_holding x ≡ true → events < k.history.events
+unfolding came
+gives_behind s k x events v h t holds = t.came ((due_given s k x v h).holds holds)

@@ -3,6 +3,7 @@ pub mod Ties
 pub mod Played
 pub mod Shown
 pub mod Follows
+pub mod Inside
 pub mod Lively
 pub mod Refusals
 pub mod Gives

@@ -22,7 +22,11 @@ use Rattle.rules.specs.declared.kept.Work.{Work}
 use Rattle.rules.specs.declared.kept.Work.TheVariants.{Rests as rests, Refuses as refuses, Lacks as lacks, Sends as sends, Reads as reads, Writes as writes, Resets as resets, Happens as happens}
 use Rattle.rules.specs.Kept.{begun_of, job_of, operation_at, operation_now}
 use Rattle.rules.specs.History.{lives_in}
-use Rattle.rules.specs.Work.{first_item, reads_first, work_of_operation}
+use Rattle.channels.specs.Channels.{open_command}
+use Rattle.rules.specs.declared.holdings.Handle.{Handle}
+use Rattle.rules.specs.Channels.{handle_of, is_living_handle}
+use Rattle.rules.specs.Sessions.{verify_command}
+use Rattle.rules.specs.Work.{first_item, living_handle, reads_first, sends_close, sends_raw, work_of_operation}
 use Rattle.rules.specs.After.{decision_at, decision_of_begun, fresh_begun, kept_after, kept_of}
 use Rattle.rules.specs.Due.{due, command_by_chain, command_by_stage, first_command, first_of_turn}
 use Rattle.rules.specs.State.{world_of}
@@ -32,7 +36,7 @@ use Rattle.performed.specs.Served.{is_served, serves}
 use Rattle.performed.specs.Followed.{are_followed, is_followed}
 use Rattle.performed.specs.Told.{are_told}
 use Rattle.performed.proofs.CalmSends.{ServedOp, served_at, served_now}
-use Rattle.performed.proofs.CalmCards.{lives_of}
+use Rattle.hub.proofs.Inside.{inside_while}
 use Rattle.performed.proofs.TurnsSays.{says_of}
 use Rattle.card_model.specs.declared.world.World.{World}
 use Rattle.hub.specs.Parts.{Parts}
@@ -116,10 +120,24 @@ item_lives k true living e h = absurd (true≢false (sym h))
 item_lives k false true e h = e
 item_lives k false false e h = absurd (true≢false (sym h))
 
+-- a command on a channel goes to a handle of a living epoch
+living_by : (k : Kept) (on : Option Handle → Work) → sends_work (on None) ≡ false → (h : Handle) (b : Bool) → is_living_handle k.history h ≡ b → sends_work (on (if b then Some h else None)) ≡ true → k.history.living ≡ true
+living_by k on none h true e g = (and_parts k.history.living (k.history.epoch == h.epoch) e).0
+living_by k on none h false e g = absurd (true≢false (sym g ∙ none))
+
+handle_lives : (k : Kept) (on : Option Handle → Work) → sends_work (on None) ≡ false → (o : Option Handle) → sends_work (on (living_handle k o)) ≡ true → k.history.living ≡ true
+handle_lives k on none None g = absurd (true≢false (sym g ∙ none))
+handle_lives k on none (Some h) g = living_by k on none h (is_living_handle k.history h) refl g
+
 operation_lives : (k : Kept) (a : ℕ) (b : Begun) (op : Operation) → is_served op ≡ true → sends_work (work_of_operation k a b op).work ≡ true → k.history.living ≡ true
 unfolding sends_work
 operation_lives k a b (operation.Insert card) v h = absurd (true≢false (sym h))
 operation_lives k a b (operation.Load f) v h = epoch_lives k.history b.epoch (work_if (lives_in k.history b.epoch) (reads_first k.files (family_paths f)) h)
+operation_lives k a b (operation.OpenChannel handle aid) v h = epoch_lives k.history b.epoch (work_if (lives_in k.history b.epoch) (sends open_command) h)
+operation_lives k a b (operation.Raw handle apdu) v h = handle_lives k (sends_raw apdu) refl (handle_of a handle k.handles) h
+operation_lives k a b (operation.Close handle) v h = handle_lives k sends_close refl (handle_of a handle k.handles) h
+operation_lives k a b (operation.Verify key pin) v h = epoch_lives k.history b.epoch (work_if (lives_in k.history b.epoch) (sends (verify_command key pin)) h)
+operation_lives k a b (operation.End key) v h = absurd (true≢false (sym h))
 operation_lives k a b operation.Look v h = absurd (true≢false (sym h))
 operation_lives k a b op v h = absurd (true≢false (sym v))
 
@@ -171,8 +189,7 @@ lively s (l ∷ earlier) v f =
 -- a command that is due is sent to a card
 pub sends_inside : (s : Script) (lines : List Line) (c : CommandValue) → serves s ≡ true → are_followed s lines ≡ true → are_told s lines ≡ true → due s (kept_of s lines) ≡ send c → is_some (card_inside (world_of s lines)) ≡ true
 sends_inside s lines c v f t h =
-    let at = lives_of s lines v f t (due_lives s (kept_of s lines) c (lively s lines v f) h) in
-    ap is_some at.inside
+    inside_while s lines t (due_lives s (kept_of s lines) c (lively s lines v f) h)
 
 world_has : (s : Script) (lines : List Line) (c : CommandValue) (w : Option World) → serves s ≡ true → are_followed s lines ≡ true → due s (kept_of s lines) ≡ send c → IfSome w (IsWorldOf s lines) → IfSome w (λ x. is_some (card_inside x) ≡ true)
 world_has s lines c None v f h t = tt

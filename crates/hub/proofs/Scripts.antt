@@ -1,5 +1,5 @@
 -- What the rules of a script, and that it is served, say of it.
-use Rattle.std.proofs.Common.{◌≡◌, ◌≤◌, ◌<◌, ◌&&◌, ◌||◌, ◌⊎◌, inl, inr, eqb-true, ◌==◌, ℕ, zero, suc, Bool, true, false, nat_le, List, ◌∷◌, length, Option, Some, None, if◌then◌else◌, refl, sym, subst, arith, leb-true, true≢false}
+use Rattle.std.proofs.Common.{◌≡◌, ◌≤◌, ◌<◌, ◌&&◌, ◌||◌, ◌⊎◌, inl, inr, eqb-true, ◌==◌, ℕ, zero, suc, Bool, true, false, nat_le, List, [], ◌∷◌, length, Option, Some, None, if◌then◌else◌, refl, sym, ap, subst, ◌∙◌, arith, le-leb, leb-true, true≢false, lit<}
 use Rattle.std.specs.List.{list_all}
 use Rattle.std.specs.Prelude.{option_and_then}
 use Rattle.std.proofs.lemmas.Bool.{and_parts}
@@ -9,7 +9,7 @@ use Rattle.families.specs.Families.{all_families}
 use Rattle.script_reader.specs.declared.types.Script.{Script}
 use Rattle.script_reader.specs.declared.types.Operation.{Operation}
 use Rattle.script_reader.specs.declared.types.Operation.TheVariants as operation
-use Rattle.script_reader.specs.Operations.{operation_count, is_actor}
+use Rattle.script_reader.specs.Operations.{has_form, is_handle, operation_count, is_actor}
 use Rattle.script_reader.specs.Rules.{keeps_rules, cards_keep_rules, changes_keep_rules, actors_keep_rules, schedule_keeps_rules, faults_keep_rules, budget_keeps_rules}
 use Rattle.report.specs.declared.line.Line.{Line}
 use Rattle.report.specs.declared.line.Line.TheVariants as line
@@ -20,12 +20,17 @@ use Rattle.rules.specs.Kept.{begun_of, job_of, operation_at, operation_now}
 use Rattle.rules.specs.After.{kept_of}
 use Rattle.epoch_cache.specs.Cache.{all_current}
 use Rattle.families.specs.Families.{family_paths}
-use Rattle.tracker.specs.Held.{may_hold}
+use Rattle.performed.proofs.TurnsSays.{says_of}
+use Rattle.tracker.specs.Held.{gives_holding}
 use Rattle.tracker.specs.Room.{operation_fits}
+use Rattle.report.specs.declared.answer.Answer.{Answer}
+use Rattle.report.specs.declared.answer.Answer.TheVariants as answer
+use Rattle.hub.specs.Performing.{is_holding}
 use Rattle.planner.specs.Room.{is_edit}
 use Rattle.performed.specs.Served.{serves}
+use Rattle.performed.specs.Followed.{is_slot_answer}
 use Rattle.performed.proofs.CalmSends.{ServedOp, served_at, served_now}
-use Rattle.performed.proofs.LegalScript.{family_known, is_family_or_none}
+use Rattle.performed.proofs.LegalScript.{IsPlain, family_known, is_family_or_none, plain_now}
 use Rattle.hub.specs.Ready.{family_by, family_next, family_ready, if_current}
 use Rattle.hub.specs.Parts.{Parts}
 use Rattle.hub.specs.Settled.{IsTied}
@@ -50,29 +55,30 @@ few_actors s h =
 
 -- ---- the operations of a script that is served
 
-fits_op : (o : Option Operation) → ServedOp o → operation_fits o ≡ true
-fits_op None h = refl
-fits_op (Some (operation.Insert card)) h = refl
-fits_op (Some (operation.Load f)) h = refl
-fits_op (Some operation.Look) h = refl
-fits_op (Some op) h = absurd (true≢false (sym h))
+aid_fits : (handle : ℕ) (aid : List ℕ) → has_form (operation.OpenChannel handle aid) ≡ true → nat_le (length aid) 255 ≡ true
+aid_fits handle aid h =
+    let q = and_parts (is_handle handle) (is_between 5 16 (length aid)) h in
+    let few = leb-true (length aid) 16 (and_parts (nat_le 5 (length aid)) (nat_le (length aid) 16) q.1).1 in
+    le-leb (length aid) 255 (omega arith)
+
+fits_op : (o : Option Operation) → IsPlain o → operation_fits o ≡ true
+fits_op (Some (operation.OpenChannel handle aid)) h = aid_fits handle aid (h.formed (operation.OpenChannel handle aid) refl)
+fits_op op h = refl
 
 edit_op : (o : Option Operation) → ServedOp o → is_edit o ≡ false
 edit_op None h = refl
 edit_op (Some (operation.Insert card)) h = refl
 edit_op (Some (operation.Load f)) h = refl
+edit_op (Some (operation.OpenChannel handle aid)) h = refl
+edit_op (Some (operation.Raw handle apdu)) h = refl
+edit_op (Some (operation.Close handle)) h = refl
+edit_op (Some (operation.Verify key pin)) h = refl
+edit_op (Some (operation.End key)) h = refl
 edit_op (Some operation.Look) h = refl
 edit_op (Some op) h = absurd (true≢false (sym h))
 
-hold_op : (o : Option Operation) → ServedOp o → has_value may_hold o ≡ false
-hold_op None h = refl
-hold_op (Some (operation.Insert card)) h = refl
-hold_op (Some (operation.Load f)) h = refl
-hold_op (Some operation.Look) h = refl
-hold_op (Some op) h = absurd (true≢false (sym h))
-
-pub fits_now : (s : Script) (a : ℕ) (jobs : List Job) → serves s ≡ true → operation_fits (operation_now s a jobs) ≡ true
-fits_now s a jobs h = fits_op (operation_now s a jobs) (served_now s a jobs h)
+pub fits_now : (s : Script) (a : ℕ) (jobs : List Job) → keeps_rules s ≡ true → serves s ≡ true → operation_fits (operation_now s a jobs) ≡ true
+fits_now s a jobs rules h = fits_op (operation_now s a jobs) (plain_now s rules h a jobs)
 
 pub no_edit_now : (s : Script) (a : ℕ) (jobs : List Job) → serves s ≡ true → is_edit (operation_now s a jobs) ≡ false
 no_edit_now s a jobs h = edit_op (operation_now s a jobs) (served_now s a jobs h)
@@ -80,8 +86,25 @@ no_edit_now s a jobs h = edit_op (operation_now s a jobs) (served_now s a jobs h
 pub no_edit_at : (s : Script) (a i : ℕ) → serves s ≡ true → is_edit (operation_at s a i) ≡ false
 no_edit_at s a i h = edit_op (operation_at s a i) (served_at s a i h)
 
-pub holds_nothing : (s : Script) (a i : ℕ) → serves s ≡ true → has_value may_hold (operation_at s a i) ≡ false
-holds_nothing s a i h = hold_op (operation_at s a i) (served_at s a i h)
+-- ---- answers that give a channel or a session
+
+gives_by : (given : Answer) (op : Operation) → is_holding given ≡ false → gives_holding op given ≡ false
+gives_by (answer.Opened channel) op h = absurd (true≢false h)
+gives_by answer.Verified op h = absurd (true≢false h)
+gives_by given (operation.OpenChannel handle aid) h = refl
+gives_by given (operation.Verify key pin) h = refl
+gives_by given op h = refl
+
+pub gives_nothing : (given : Answer) (op : Option Operation) → is_holding given ≡ false → has_value (λ o. gives_holding o given) op ≡ false
+gives_nothing given None h = refl
+gives_nothing given (Some op) h = gives_by given op h
+
+-- the slot's answers give none
+pub slot_holds_nothing : (given : Answer) (P : Type 0) → is_slot_answer given ≡ true → is_holding given ≡ true → P
+slot_holds_nothing answer.SlotFull P h g = absurd (true≢false (sym g))
+slot_holds_nothing answer.SlotEmpty P h g = absurd (true≢false (sym g))
+slot_holds_nothing answer.ArmFull P h g = absurd (true≢false (sym g))
+slot_holds_nothing given P h g = absurd (true≢false (sym h))
 
 -- ---- families
 

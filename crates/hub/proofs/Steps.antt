@@ -1,5 +1,5 @@
 -- A turn from line to line.
-use Rattle.std.proofs.Common.{◌≡◌, ◌≤◌, ◌<◌, ◌+◌, ◌*◌, ◌++◌, inl, inr, ℕ, suc, not, Bool, true, false, nat_lt, List, [], ◌∷◌, length, Option, Some, None, is_some, OnErr, Result, Ok, Err, refl, sym, ap, ◌∙◌, subst, true≢false, arith, ltb-true, ltb-false, append_assoc}
+use Rattle.std.proofs.Common.{◌≡◌, ◌≤◌, ◌<◌, ◌+◌, ◌*◌, ◌++◌, inl, inr, ℕ, suc, not, Bool, true, false, nat_lt, List, [], ◌∷◌, length, Option, Some, None, is_some, IsOk, OnOk, OnErr, Result, Ok, Err, refl, sym, ap, ◌∙◌, subst, true≢false, arith, ltb-true, ltb-false, append_assoc}
 use Rattle.std.specs.Prelude.{option_map}
 use Rattle.std.proofs.lemmas.Bool.{and_parts}
 use Rattle.families.specs.Contents.{family_count}
@@ -28,10 +28,10 @@ use Rattle.performed.proofs.ProgressActors.{nobody}
 use Rattle.hub.specs.Hub.{AddsTurn}
 use Rattle.hub.specs.Parts.{Parts}
 use Rattle.hub.specs.Ready.{family_ready}
-use Rattle.hub.specs.Settled.{BreaksBehind, HasBroken, HasLine, HasOneMore, HasTurned, IsPrepared, IsReady, IsSettled, IsTied, IsTurning, LeavesRoom, MayPublish, StaysWith, most_of_text}
-use Rattle.hub.proofs.Calm.{publishes, was_ready, events_rise}
+use Rattle.hub.specs.Settled.{BreaksBehind, HasBroken, HasLine, HasOneMore, HasTurned, IsPrepared, IsReady, IsSettled, IsSince, IsTied, IsTurning, LeavesRoom, MayPublish, StaysWith, most_of_text}
+use Rattle.hub.proofs.Calm.{publishes, was_ready}
 use Rattle.hub.proofs.Scripts.{known_some}
-use Rattle.hub.proofs.Turning.{less_text, ready_by, unless}
+use Rattle.hub.proofs.Turning.{came_on, less_text, ready_by, unless}
 
 -- ---- the mark
 
@@ -71,6 +71,9 @@ first_turning p q a text t awake ready h bytes =
       ready =
           subst (λ (z : Script). IsReady a z (kept_of z p.lines.lines) q.kept text) (sym h.stays.script)
           (first_ready a s (kept_of s p.lines.lines) q.kept text (ap (λ (k : Kept). k.history.events) kept) (subst (λ (k : Kept). text ≡ option_map (λ f. kept_text f k) (family_ready s k a)) t.tied.kept ready.ready));
+      since =
+          subst (λ (z : Script). IsSince (kept_of z p.lines.lines).history.events q.kept) (sym h.stays.script)
+          (subst (λ (k : Kept). IsSince (kept_of s p.lines.lines).history.events k) (sym kept) (record { started = omega arith; came = λ e. absurd (true≢false (sym e)) }));
       few = omega arith;
       steps = steps;
       spare = omega arith;
@@ -114,6 +117,9 @@ module _ (a : ℕ) (earlier : List Line) (text : Option (List ℕ)) (p q : Parts
         turn = turn_on;
         awake = ap (λ (z : Script). is_idle z (kept_of z earlier) a) m.has.stays.script ∙ t.awake;
         ready = subst (λ (z : Script). IsReady a z (kept_of z earlier) q.kept new) (sym m.has.stays.script) ready;
+        since =
+            subst (λ (z : Script). IsSince (kept_of z earlier).history.events q.kept) (sym m.has.stays.script)
+            (subst (λ (k : Kept). IsSince (kept_of p.script earlier).history.events k) (sym kept_on) (came_on p.script m.line p.kept (kept_of p.script earlier).history.events m.own t.since));
         few = omega arith;
         steps = omega arith;
         spare = omega arith;
@@ -169,21 +175,13 @@ module _ (a : ℕ) (earlier : List Line) (p : Parts) (f : ℕ) where
       (ap (λ (k : Kept). is_family_or_none k.turn.family) t.tied.kept ∙ family_known p.script p.lines.lines t.tied.lines.rules t.tied.lines.served)
       (publishes p.script p.kept f h).family
 
-  events_risen : (text : Option (List ℕ)) → IsTurning a earlier text p → (kept_of p.script earlier).history.events ≤ p.kept.history.events
-  events_risen text t =
-      let kept : p.kept ≡ kept_of p.script (t.turn.added ++ line.Turn a ∷ earlier) = t.tied.kept ∙ ap (kept_of p.script) t.turn.lines in
-      let same = ap (λ (k : Kept). k.history.events) kept in
-      let risen = events_rise p.script t.turn.added (line.Turn a ∷ earlier) in
-      let start : (kept_of p.script (line.Turn a ∷ earlier)).history.events ≡ (kept_of p.script earlier).history.events = refl in
-      omega arith
-
   moved_by : (t : IsTurning a earlier None p) → due p.script p.kept ≡ publish f → (b : Bool) → nat_lt (kept_of p.script earlier).history.events p.kept.history.events ≡ b → IsReady a p.script (kept_of p.script earlier) p.kept None → (kept_of p.script earlier).history.events < p.kept.history.events
   moved_by t h true e r = ltb-true _ _ e
   moved_by t h false e (inr (inl moved)) = moved
   moved_by t h false e (inr (inr published)) = absurd (true≢false (sym published ∙ ap is_some (publishes p.script p.kept f h).free))
   moved_by t h false e (inl never) =
       let low = ltb-false _ _ e in
-      let high = events_risen None t in
+      let high = t.since.started in
       let was = lines_ready None t h (omega arith) in
       let both : None ≡ Some f = sym never ∙ was.0 in
       absurd (cc)
@@ -236,6 +234,16 @@ pub always_err : {T E : Type 0} (r : Result T E) (P : Type 0) → P → OnErr r 
 always_err (Ok x) P h = tt
 always_err (Err e) P h = h
 
+pub on_ok : {T E : Type 0} (r : Result T E) (P Q : Type 0) → OnOk r P → (P → Q) → OnOk r Q
+on_ok (Ok x) P Q h f = f h
+on_ok (Err e) P Q h f = tt
+
+-- where there is room unless the test holds
+pub unless_room : {T E : Type 0} (r : Result T E) (b : Bool) (P : Type 0) → (b ≡ false → IsOk r) → (b ≡ true → P) → OnErr r P
+unless_room (Ok x) b P room f = tt
+unless_room (Err e) true P room f = f refl
+unless_room (Err e) false P room f = absurd (true≢false (sym (room refl)))
+
 pub turned : (p q : Parts) (a : ℕ) (text : Option (List ℕ)) → StaysWith p q → IsTurning a p.lines.lines text q → ends_turn (due q.script q.kept) ≡ true → HasTurned a p q
 turned p q a text h t e = record { stays = h; settled = record { tied = t.tied; ends = e }; turn = t.turn }
 
@@ -248,8 +256,8 @@ no_marks_both (x ∷ xs) ys h g =
     let q = and_parts (not (is_mark x)) (has_no_mark xs) h in
     rw (q.0) (no_marks_both xs ys q.1 g)
 
-pub broken : (p q r : Parts) (a events from : ℕ) (text : Option (List ℕ)) → events ≡ (kept_of p.script p.lines.lines).history.events → events ≤ from → StaysWith p q → IsTurning a p.lines.lines text q → BreaksBehind from q r → HasBroken a p r
-broken p q r a events from text start rise h t b =
+pub broken : (p q r : Parts) (a events : ℕ) (text : Option (List ℕ)) → events ≡ (kept_of p.script p.lines.lines).history.events → StaysWith p q → IsTurning a p.lines.lines text q → BreaksBehind events q r → HasBroken a p r
+broken p q r a events text start h t b =
     let later = b.event in
     record {
       stays = stays_then p q r h b.stays;
@@ -261,9 +269,5 @@ broken p q r a events from text start rise h t b =
       event = omega arith;
     }
 
-pub since : (p q : Parts) (a events : ℕ) (text : Option (List ℕ)) → events ≡ p.kept.history.events → IsTied p → StaysWith p q → IsTurning a p.lines.lines text q → events ≤ q.kept.history.events
-since p q a events text e tied h t =
-    let rise = events_risen a p.lines.lines q 0 text t in
-    let start = ap (λ (k : Kept). k.history.events) tied.kept in
-    let same = ap (λ (s : Script). (kept_of s p.lines.lines).history.events) h.script in
-    omega arith
+pub since : (p q : Parts) (a events : ℕ) (text : Option (List ℕ)) → events ≡ p.kept.history.events → IsTied p → StaysWith p q → IsTurning a p.lines.lines text q → IsSince events q.kept
+since p q a events text e tied h t = subst (λ (n : ℕ). IsSince n q.kept) (sym (from_start p q events e tied h)) t.since

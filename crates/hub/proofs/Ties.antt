@@ -1,5 +1,5 @@
 -- One line more, in the parts of a hub.
-use Rattle.std.proofs.Common.{◌≡◌, ◌<◌, ◌+◌, arith, Bool, true, false, List, [], ◌∷◌, Option, Some, None, IfSome, refl, sym, ap, ◌∙◌, subst}
+use Rattle.std.proofs.Common.{◌≡◌, ◌<◌, ◌+◌, arith, ℕ, Bool, true, false, List, [], ◌∷◌, Option, Some, None, IfSome, refl, sym, ap, ◌∙◌, subst}
 use Rattle.std.proofs.lemmas.Bool.{false≢true}
 use Rattle.card_model.specs.declared.world.World.{World}
 use Rattle.card_model.specs.Slot.{Plan, StaysTold}
@@ -12,9 +12,10 @@ use Rattle.rules.specs.History.{is_call, is_event}
 use Rattle.rules.specs.Due.{due}
 use Rattle.rules.specs.declared.due.Due.{Due}
 use Rattle.rules.specs.After.{is_mark, kept_after, kept_of}
-use Rattle.rules.specs.State.{world_after}
-use Rattle.performed.specs.Followed.{is_followed}
-use Rattle.performed.specs.Told.{is_told}
+use Rattle.rules.specs.State.{world_after, world_of}
+use Rattle.performed.specs.Followed.{are_followed, is_followed}
+use Rattle.performed.specs.Told.{are_told, is_told}
+use Rattle.performed.proofs.TurnsKept.{goes_on}
 use Rattle.hub.specs.Parts.{Parts}
 use Rattle.hub.specs.Settled.{AreServed, BreaksBehind, HasLine, HasOneMore, KeepsAll, IsPlanOf, IsTied, IsWorldOf}
 
@@ -106,6 +107,25 @@ broke_behind p room k v q l t lines e own tells tells_plan =
       own = rw own refl;
       event = subst (λ (x : List Line). p.kept.history.events < (kept_of p.script x).history.events) (sym lines) (omega arith);
     }
+
+-- the same of a line behind an event of the turn
+pub broke_after : (p : Parts) (room : LinesRoom) (k : Kept) (v : Option World) (q : Option Plan) (l : Line) (events : ℕ) → IsTied p → room.lines ≡ l ∷ p.lines.lines → is_mark l ≡ false → StaysTold p.world v → StaysTold p.plan q → events < p.kept.history.events → BreaksBehind events p (record { script = p.script; lines = room; kept = k; world = v; plan = q })
+broke_after p room k v q l events t lines own tells tells_plan moved =
+    let same : p.kept.history.events ≡ (kept_of p.script p.lines.lines).history.events = ap (λ (x : Kept). x.history.events) t.kept in
+    let more = (goes_on p.script l (kept_of p.script p.lines.lines)).events in
+    record {
+      stays = record { script = refl; world = tells; plan = tells_plan };
+      added = l ∷ [];
+      lines = lines;
+      own = rw own refl;
+      event = subst (λ (x : List Line). events < (kept_of p.script x).history.events) (sym lines) (omega arith);
+    }
+
+-- since fewer events
+pub broke_since : (p q : Parts) (events later : ℕ) → events ≤ later → BreaksBehind later p q → BreaksBehind events p q
+broke_since p q events later h b =
+    let event = b.event in
+    record { stays = b.stays; added = b.added; lines = b.lines; own = b.own; event = omega arith }
 
 -- ---- where only the room changed
 

@@ -15,7 +15,7 @@ use Rattle.card_model.specs.declared.slot.WorldRefusal.{WorldRefusal}
 use Rattle.card_model.specs.declared.slot.WorldRefusal.TheVariants as refusal
 use Rattle.card_model.specs.Slot.{insert_refusal, refusal_of, IsRefused, IsResultOf}
 use Rattle.card_model.specs.Step.{after_event, after_reset, armed_at, armed_card, armed_in, card_inside, inserted, on_card, reset_card, reset_in, step, step_of_card, step_of_place}
-use Rattle.channels.specs.Channels.{is_opening}
+use Rattle.channels.specs.Channels.{is_opening, on_channel, open_command}
 use Rattle.families.specs.Families.{family_paths}
 use Rattle.epoch_cache.specs.Cache.{first_missing}
 use Rattle.epoch_cache.specs.Past.{is_insertion}
@@ -33,6 +33,7 @@ use Rattle.report.specs.declared.answer.Answer.{Answer}
 use Rattle.report.specs.declared.line.Line.{Line}
 use Rattle.report.specs.declared.line.Line.TheVariants as line
 use Rattle.rules.specs.declared.due.Due.TheVariants.{TryEvent as try_event}
+use Rattle.rules.specs.declared.holdings.Handle.{Handle}
 use Rattle.rules.specs.declared.kept.Begun.{Begun}
 use Rattle.rules.specs.declared.kept.Facts.{Facts}
 use Rattle.rules.specs.declared.kept.Job.{Job}
@@ -49,7 +50,9 @@ use Rattle.rules.specs.After.{decision_at, decision_of_begun, facts_of, fresh_be
 use Rattle.rules.specs.Due.{answer_of_refusal, due, event_by_stage, event_of, slot_answer_by, tried_event}
 use Rattle.rules.specs.Rules.{same_answer}
 use Rattle.rules.specs.State.{world_after, world_of}
-use Rattle.rules.specs.Work.{first_item, is_starting, read_stale, reads_first, work_of_operation}
+use Rattle.rules.specs.Channels.{handle_of, is_raw_ins}
+use Rattle.rules.specs.Sessions.{verify_command}
+use Rattle.rules.specs.Work.{first_item, is_starting, living_handle, read_stale, reads_first, sends_close, sends_raw, work_of_operation}
 use Rattle.performed.specs.Served.{is_served, serves}
 use Rattle.performed.specs.Followed.{are_followed, is_followed}
 use Rattle.performed.specs.Measure.{calls_left, is_begun}
@@ -149,10 +152,25 @@ unfolding work_fits
 missing_fits s None = tt
 missing_fits s (Some path) = tt
 
+raw_fits : (s : Script) (c : CommandValue) (o : Option Handle) → work_fits s (sends_raw c o)
+unfolding work_fits
+raw_fits s c None = tt
+raw_fits s c (Some h) = if_fits s (is_raw_ins c.ins) (sends (on_channel h.number c)) tt
+
+close_fits : (s : Script) (o : Option Handle) → work_fits s (sends_close o)
+unfolding work_fits
+close_fits s None = tt
+close_fits s (Some h) = tt
+
 operation_fits : (s : Script) (k : Kept) (a : ℕ) (b : Begun) (op : Operation) → is_served op ≡ true → has_target (length s.cards) (length s.changes) op ≡ true → work_fits s (work_of_operation k a b op).work
 unfolding work_fits fits
 operation_fits s k a b (operation.Insert card) v h = h
 operation_fits s k a b (operation.Load f) v h = if_fits s (lives_in k.history b.epoch) (reads_first k.files (family_paths f)) (missing_fits s (first_missing k.files (family_paths f)))
+operation_fits s k a b (operation.OpenChannel handle aid) v h = if_fits s (lives_in k.history b.epoch) (sends open_command) tt
+operation_fits s k a b (operation.Raw handle apdu) v h = raw_fits s apdu (living_handle k (handle_of a handle k.handles))
+operation_fits s k a b (operation.Close handle) v h = close_fits s (living_handle k (handle_of a handle k.handles))
+operation_fits s k a b (operation.Verify key pin) v h = if_fits s (lives_in k.history b.epoch) (sends (verify_command key pin)) tt
+operation_fits s k a b (operation.End key) v h = tt
 operation_fits s k a b operation.Look v h = tt
 operation_fits s k a b op v h = absurd (true≢false (sym v))
 

@@ -1,5 +1,5 @@
 -- A turn under way: what its next line may ask for, and what it leaves.
-use Rattle.std.proofs.Common.{◌≡◌, ◌≤◌, ◌<◌, ◌+◌, ◌^◌, ◌++◌, inl, inr, ℕ, zero, suc, not, Bool, true, false, nat_lt, if◌then◌else◌, List, [], ◌∷◌, length, Option, Some, None, is_some, refl, sym, ap, ◌∙◌, subst, true≢false, arith, lt-ltb, ltb-true, ltb-false}
+use Rattle.std.proofs.Common.{◌≡◌, ◌≤◌, ◌<◌, ◌&&◌, ◌+◌, ◌*◌, ◌^◌, ◌==◌, ◌++◌, ◌⊎◌, inl, inr, ℕ, zero, suc, not, Bool, true, false, nat_le, nat_lt, if◌then◌else◌, List, [], ◌∷◌, length, slice_get, unwrap_or, Option, Some, None, is_some, is_none, option_map, refl, sym, ap, ◌∙◌, subst, true≢false, arith, lt-ltb, ltb-true, ltb-false, append_assoc}
 use Rattle.std.specs.List.{list_all}
 use Rattle.std.proofs.lemmas.Bool.{and_parts}
 use Rattle.script_reader.specs.declared.types.Script.{Script}
@@ -8,6 +8,7 @@ use Rattle.report.specs.declared.line.Line.{Line}
 use Rattle.report.specs.declared.line.Line.TheVariants as line
 use Rattle.link.specs.declared.chain.Final.{Final}
 use Rattle.loader.specs.declared.reading.RefusedReading.{RefusedReading}
+use Rattle.rules.specs.declared.holdings.Handle.{Handle}
 use Rattle.rules.specs.declared.kept.Begun.{Begun}
 use Rattle.rules.specs.declared.kept.Facts.{Facts}
 use Rattle.rules.specs.declared.kept.Job.{Job}
@@ -18,13 +19,17 @@ use Rattle.rules.specs.After.{facts_of, is_mark, kept_after, kept_of, turn_excha
 use Rattle.rules.specs.Due.{due}
 use Rattle.rules.specs.Performed.{ends_turn}
 use Rattle.planner.specs.Room.{begun_fits as updates_fit, is_decided, turn_fits, turn_is_decided, handles_fit}
-use Rattle.tracker.specs.Room.{CountsOn, HasRoom, begun_has_room, job_has_room}
-use Rattle.performed.specs.Laws.{AreCounted, ArePlainJobs, IsPlain, IsPlainJob, has_no_edit, has_no_mark}
+use Rattle.tracker.specs.Room.{CountsOn, HasRoom, begun_has_room, job_has_room, mailbox_has_room}
+use Rattle.performed.specs.Served.{serves}
+use Rattle.performed.specs.Followed.{are_followed, is_followed}
+use Rattle.performed.specs.Laws.{AreCounted, ArePlainJobs, IsPlain, IsPlainJob, has_no_edit, has_no_mark, is_channel}
+use Rattle.performed.specs.Measure.{is_begun, one_if, steps_left}
 use Rattle.performed.proofs.Counts.{counts}
 use Rattle.performed.proofs.Plain.{stays_plain}
 use Rattle.performed.proofs.TurnsKept.{goes_on}
 use Rattle.hub.specs.Parts.{Parts}
-use Rattle.hub.specs.Settled.{IsReady, IsSettled, IsTied, IsTurning, IsUnderWay, most_of_text}
+use Rattle.hub.specs.Ready.{family_ready}
+use Rattle.hub.specs.Settled.{BreaksBehind, HasBroken, HasLine, HasOneMore, HasTurned, IsPrepared, IsReady, IsSettled, IsTied, IsSince, IsTurning, IsUnderWay, most_of_text}
 
 -- ---- plain jobs
 
@@ -74,6 +79,15 @@ counts_on n k c h =
     let m = c.marks in
     record { events = omega arith; calls = omega arith; epoch = omega arith; publications = omega arith; marks = omega arith }
 
+-- ---- the channels that are held
+
+handles_by : (hs : List Handle) → list_all is_channel hs ≡ true → handles_fit hs ≡ true
+handles_by [] h = refl
+handles_by (x ∷ hs) h =
+    let q = and_parts (is_channel x) (list_all is_channel hs) h in
+    let few = and_parts (nat_le 1 x.number) (nat_le x.number 19) q.0 in
+    rw (few.1) (handles_by hs q.1)
+
 module _ (p : Parts) (t : IsTied p) where
   plain : IsPlain p.kept
   plain = subst IsPlain (sym t.kept) (stays_plain p.script p.lines.lines t.lines.rules t.lines.served t.lines.followed)
@@ -85,7 +99,7 @@ module _ (p : Parts) (t : IsTied p) where
   }
 
   pub handles_small : handles_fit p.kept.handles ≡ true
-  handles_small = rw (plain.handles) refl
+  handles_small = handles_by p.kept.handles plain.handles
 
 -- ---- whose turn it is
 
@@ -157,6 +171,20 @@ published_stays s (line.Published n f e v text) k m h = refl
 published_stays s (line.EpochEnd n e v) k m h = h
 published_stays s (line.Refused f n) k m h = h
 published_stays s (line.Answered a i given) k m h = h
+
+-- what a turn's commands came to came of an event
+pub came_on : (s : Script) (l : Line) (k : Kept) (n : ℕ) → is_mark l ≡ false → IsSince n k → IsSince n (kept_after s l k)
+came_on s (line.Turn a) k n m h = absurd (true≢false m)
+came_on s (line.Begin a i) k n m h = record { started = h.started; came = h.came }
+came_on s (line.Exchange a c r) k n m h = let low = h.started in record { started = omega arith; came = λ e. omega arith }
+came_on s (line.Failed a c d) k n m h = let low = h.started in record { started = omega arith; came = λ e. omega arith }
+came_on s (line.Reset a) k n m h = let low = h.started in record { started = omega arith; came = λ e. omega arith }
+came_on s (line.ResetFailed a) k n m h = let low = h.started in record { started = omega arith; came = λ e. omega arith }
+came_on s (line.World a e) k n m h = let low = h.started in record { started = omega arith; came = λ e. omega arith }
+came_on s (line.Published x f e v text) k n m h = record { started = h.started; came = h.came }
+came_on s (line.EpochEnd x e v) k n m h = record { started = h.started; came = h.came }
+came_on s (line.Refused f x) k n m h = record { started = h.started; came = h.came }
+came_on s (line.Answered a i given) k n m h = record { started = h.started; came = h.came }
 
 -- what was made ready stays so while no event comes
 abbrev pub unless : ℕ → ℕ → Option (List ℕ) → Option (List ℕ)

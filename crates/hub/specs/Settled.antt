@@ -116,6 +116,11 @@ pub record IsUnderWay (a : ℕ) (p : Parts) : Type 0 where
   pub spare : 0 < p.lines.spare
   pub spare_bytes : 608 ≤ p.lines.spare_bytes
 
+-- the turn began at so many events, and where its commands came to something, an event of the turn stands before
+pub record IsSince (events : ℕ) (k : Kept) : Type 0 where
+  pub started : events ≤ k.history.events
+  pub came : is_some k.turn.outcome ≡ true → events < k.history.events
+
 -- what was made ready is what the turn publishes next, where that is due; where nothing is ready, an event of the turn stands before
 pub record MayPublish (events f : ℕ) (ready : Option (List ℕ)) (p : Parts) : Type 0 where
   pub family : f < family_count
@@ -138,6 +143,7 @@ pub record IsTurning (a : ℕ) (earlier : List Line) (text : Option (List ℕ)) 
   pub turn : AddsTurn a earlier p.lines.lines
   pub awake : is_idle p.script (kept_of p.script earlier) a ≡ false
   pub ready : IsReady a p.script (kept_of p.script earlier) p.kept text
+  pub since : IsSince (kept_of p.script earlier).history.events p.kept
   pub few : length p.lines.lines + steps_left p.kept + 1 < 2 ^ 64
   pub steps : steps_left p.kept ≤ 96
   pub spare : steps_left p.kept + 1 ≤ p.lines.spare

@@ -14,8 +14,8 @@ ghost use Rattle.rules.specs.declared.kept.Begun.{Begun};
 ghost use Rattle.performed.specs.Followed.{is_given_or_refused, is_slot_answer};
 ghost use Rattle.performed.specs.Told.{is_refusal_told};
 ghost use Rattle.hub.specs.Parts.{parts};
-ghost use Rattle.hub.specs.Performing.{is_performed};
-ghost use Rattle.hub.specs.Settled.{BreaksBehind, HasOneMore, IsUnderWay, KeepsAll, LeavesRoom, MayPublish, most_of_text};
+ghost use Rattle.hub.specs.Performing.{is_holding, is_performed};
+ghost use Rattle.hub.specs.Settled.{BreaksBehind, HasOneMore, IsSince, IsUnderWay, KeepsAll, LeavesRoom, MayPublish, most_of_text};
 
 use crate::engine::{BYTES_OF_PUBLICATION, BYTES_OF_TURN, Engine, NoPlans};
 use crate::publish::text_of;
@@ -93,13 +93,14 @@ impl<S: ScriptedSlot> Engine<S> {
         self.lines.push_within(&Line::Refused { family, event });
     }
 
-    fn send(&mut self, actor: u8, command: Command) -> Result<(), Memory>
+    fn send(&mut self, actor: u8, from: u64, command: Command) -> Result<(), Memory>
         requires turn { IsUnderWay actor (parts S.Slot.world S.Slot.plan self.old) }
+        requires since { IsSince from self.old.tracker }
         requires due { rules.due self.old.script self.old.tracker ≡ Due.Send command }
         ensures line { OnOk result (HasOneMore (parts S.Slot.world S.Slot.plan self.old)
             (parts S.Slot.world S.Slot.plan self.new)) }
         ensures spare_bytes { self.old.lines.spare_bytes ≤ self.new.lines.spare_bytes + 608 }
-        ensures err { OnErr result (BreaksBehind self.old.tracker.history.events
+        ensures err { OnErr result (BreaksBehind from
             (parts S.Slot.world S.Slot.plan self.old) (parts S.Slot.world S.Slot.plan self.new)) }
     {
         match self.slot.exchange(&command) {
@@ -146,19 +147,22 @@ impl<S: ScriptedSlot> Engine<S> {
         }
     }
 
-    fn try_event(&mut self, actor: u8, event: WorldEvent)
+    fn try_event(&mut self, actor: u8, from: u64, event: WorldEvent) -> Result<(), Memory>
         requires turn { IsUnderWay actor (parts S.Slot.world S.Slot.plan self.old) }
         requires due { rules.due self.old.script self.old.tracker ≡ Due.TryEvent event }
-        ensures line { HasOneMore (parts S.Slot.world S.Slot.plan self.old)
-            (parts S.Slot.world S.Slot.plan self.new) }
+        ensures line { OnOk result (HasOneMore (parts S.Slot.world S.Slot.plan self.old)
+            (parts S.Slot.world S.Slot.plan self.new)) }
         ensures spare_bytes { self.old.lines.spare_bytes ≤ self.new.lines.spare_bytes + 608 }
+        ensures err { OnErr result (BreaksBehind from
+            (parts S.Slot.world S.Slot.plan self.old) (parts S.Slot.world S.Slot.plan self.new)) }
     {
         match self.slot.world(&event) {
             Ok(()) => {
                 self.tracker.happen(&self.script, actor, event);
                 self.lines.push_within(&Line::World { actor, event });
+                Ok(())
             }
-            Err(refusal) => self.answer(actor, refused(refusal)),
+            Err(refusal) => self.answer(actor, from, refused(refusal)),
         }
     }
 
@@ -174,7 +178,7 @@ impl<S: ScriptedSlot> Engine<S> {
         }
     }
 
-    fn answer(&mut self, actor: u8, answer: Answer)
+    fn answer(&mut self, actor: u8, from: u64, answer: Answer) -> Result<(), Memory>
         requires turn { IsUnderWay actor (parts S.Slot.world S.Slot.plan self.old) }
         requires begun { is_some (begun_in actor self.old.tracker.jobs) ≡ true }
         requires given { is_given_or_refused answer
@@ -182,9 +186,12 @@ impl<S: ScriptedSlot> Engine<S> {
         requires told { IfSome (S.Slot.world self.old.slot)
             (λ w. is_refusal_told w answer (tried_event self.old.tracker) ≡ true) }
         requires bytes { most_of_answer answer ≤ 608 }
-        ensures line { HasOneMore (parts S.Slot.world S.Slot.plan self.old)
-            (parts S.Slot.world S.Slot.plan self.new) }
+        requires moved { is_holding answer ≡ true → from < self.old.tracker.history.events }
+        ensures line { OnOk result (HasOneMore (parts S.Slot.world S.Slot.plan self.old)
+            (parts S.Slot.world S.Slot.plan self.new)) }
         ensures spare_bytes { self.old.lines.spare_bytes ≤ self.new.lines.spare_bytes + 608 }
+        ensures err { OnErr result (BreaksBehind from
+            (parts S.Slot.world S.Slot.plan self.old) (parts S.Slot.world S.Slot.plan self.new)) }
     {
         let line = Line::Answered {
             actor,
@@ -192,20 +199,20 @@ impl<S: ScriptedSlot> Engine<S> {
             answer,
         };
         self.lines.push_within(&line);
-        match self.tracker.answer(&self.script, &line) {
-            Ok(()) => {}
-            Err(_) => unreachable!(),
-        }
+        self.tracker.answer(&self.script, &line)
     }
 
-    fn give(&mut self, actor: u8, answer: Answer)
+    fn give(&mut self, actor: u8, from: u64, answer: Answer) -> Result<(), Memory>
         requires turn { IsUnderWay actor (parts S.Slot.world S.Slot.plan self.old) }
+        requires since { IsSince from self.old.tracker }
         requires due { rules.due self.old.script self.old.tracker ≡ Due.Give answer }
-        ensures line { HasOneMore (parts S.Slot.world S.Slot.plan self.old)
-            (parts S.Slot.world S.Slot.plan self.new) }
+        ensures line { OnOk result (HasOneMore (parts S.Slot.world S.Slot.plan self.old)
+            (parts S.Slot.world S.Slot.plan self.new)) }
         ensures spare_bytes { self.old.lines.spare_bytes ≤ self.new.lines.spare_bytes + 608 }
+        ensures err { OnErr result (BreaksBehind from
+            (parts S.Slot.world S.Slot.plan self.old) (parts S.Slot.world S.Slot.plan self.new)) }
     {
-        self.answer(actor, answer);
+        self.answer(actor, from, answer)
     }
 
     /// What the first line of an operation decides.
@@ -232,24 +239,25 @@ impl<S: ScriptedSlot> Engine<S> {
         self.lines.push_within(&Line::Begin { actor, op });
     }
 
-    /// The line that is due, but for a publication.
-    pub fn perform(&mut self, actor: u8, line: Due) -> Result<(), Memory>
+    /// The line that is due, but for a publication, in a turn that began at so many events.
+    pub fn perform(&mut self, actor: u8, from: u64, line: Due) -> Result<(), Memory>
         requires turn { IsUnderWay actor (parts S.Slot.world S.Slot.plan self.old) }
+        requires since { IsSince from self.old.tracker }
         requires due { rules.due self.old.script self.old.tracker ≡ line }
         requires performed { is_performed line ≡ true }
         ensures line { OnOk result (HasOneMore (parts S.Slot.world S.Slot.plan self.old)
             (parts S.Slot.world S.Slot.plan self.new)) }
         ensures spare_bytes { self.old.lines.spare_bytes ≤ self.new.lines.spare_bytes + 608 }
-        ensures err { OnErr result (BreaksBehind self.old.tracker.history.events
+        ensures err { OnErr result (BreaksBehind from
             (parts S.Slot.world S.Slot.plan self.old) (parts S.Slot.world S.Slot.plan self.new)) }
     {
         match line {
             Due::TellEnd(epoch, event) => self.tell_end(actor, epoch, event),
-            Due::Send(command) => return self.send(actor, command),
+            Due::Send(command) => return self.send(actor, from, command),
             Due::ResetCard => self.reset(actor),
-            Due::TryEvent(event) => self.try_event(actor, event),
+            Due::TryEvent(event) => return self.try_event(actor, from, event),
             Due::TellRefusal(family, event) => self.tell_refusal(actor, family, event),
-            Due::Give(answer) => self.give(actor, answer),
+            Due::Give(answer) => return self.give(actor, from, answer),
             Due::Begin(op) => self.begin(actor, op),
             Due::Publish(_) | Due::WaitFor(_) | Due::EndOfActor | Due::Rest => {}
         }

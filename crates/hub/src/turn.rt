@@ -212,7 +212,7 @@ impl<S: ScriptedSlot> Engine<S> {
                     ready = None;
                 }
                 line => {
-                    self.perform(actor, line)?;
+                    self.perform(actor, events, line)?;
                     ready = self.unless_moved(events, ready);
                 }
             }

@@ -1,71 +1,63 @@
--- Over a script that is served a card is inside while an epoch lives, and then its basic channel alone is open; nobody holds a channel.
-use Rattle.std.proofs.Common.{◌≡◌, inl, inr, ℕ, zero, suc, ◌||◌, not, Bool, true, false, if◌then◌else◌, Option, Some, None, List, [], ◌∷◌, length, refl, ap, sym, ◌∙◌, arith, true≢false}
-use Rattle.std.specs.Prelude.{slice_get, nat_lt, option_and_then, is_some, is_none}
-use Rattle.std.proofs.lemmas.Bool.{and_parts, eq-eqb, not-true}
+-- Over a script that is served a card is inside while an epoch lives, and at the end of each turn its open channels are then the basic one and
+-- those held.
+use Rattle.std.proofs.Common.{◌≡◌, ◌≤◌, inl, inr, ℕ, zero, suc, ◌+◌, ◌==◌, ◌&&◌, ◌||◌, not, Bool, true, false, if◌then◌else◌, Option, Some, None, List, [], ◌∷◌, ◌++◌, length, refl, ap, sym, ◌∙◌, subst, arith, true≢false}
+use Rattle.std.specs.Prelude.{slice_get, nat_lt, nat_le, option_and_then, is_some, is_none}
+use Rattle.std.proofs.lemmas.Bool.{and_parts, eqb-true, not-true}
 use Rattle.apdu.specs.Values.{CommandValue, ResponseValue}
-use Rattle.apdu.specs.Words.{has_value}
-use Rattle.apdu.specs.Apdu.{manage_channel_ins}
+use Rattle.apdu.specs.Words.{is_one_of, has_value}
+use Rattle.apdu.specs.Apdu.{same_command, same_response}
 use Rattle.card_model.specs.declared.world.CardState.{CardState}
 use Rattle.card_model.specs.declared.world.World.{World}
 use Rattle.card_model.specs.declared.world.WorldEvent.{WorldEvent}
 use Rattle.card_model.specs.declared.world.WorldEvent.TheVariants.{Arm, Out, Insert}
 use Rattle.card_model.specs.Slot.{insert_refusal, refusal_of}
-use Rattle.card_model.specs.Step.{on_card, card_inside, step, reset_card, inserted, after_event, reset_in, after_reset}
-use Rattle.card_effects.specs.Numbers.{numbers, ChangesNumbers}
-use Rattle.card_effects.proofs.Numbers.{numbers_effect}
-use Rattle.card_effects.proofs.Effects.{effect}
+use Rattle.card_model.specs.Step.{on_card, card_inside, step, step_of_card, step_of_place, reset_card, inserted, after_event, reset_in, after_reset}
+use Rattle.card_effects.specs.Numbers.{numbers}
 use Rattle.script_reader.specs.declared.types.Script.{Script}
 use Rattle.script_reader.specs.declared.types.Operation.{Operation}
 use Rattle.script_reader.specs.declared.types.Operation.TheVariants as operation
-use Rattle.script_reader.specs.Rules.{keeps_rules}
 use Rattle.report.specs.declared.answer.Answer.{Answer}
+use Rattle.report.specs.declared.answer.Answer.TheVariants as answer
 use Rattle.report.specs.declared.line.Line.{Line}
 use Rattle.report.specs.declared.line.Line.TheVariants as line
+use Rattle.link.specs.declared.chain.Chain.{Chain}
 use Rattle.channels.specs.Channels.{same_channels}
 use Rattle.epoch_cache.specs.Past.{is_insertion}
+use Rattle.epoch_cache.specs.declared.past.Past.{Past}
+use Rattle.loader.specs.declared.reading.RefusedReading.{RefusedReading}
+use Rattle.rules.specs.declared.due.Due.{Due}
+use Rattle.rules.specs.declared.due.Due.TheVariants.{Give as give, TryEvent as try_event, Publish as publish, ResetCard as reset_due}
 use Rattle.rules.specs.declared.holdings.Handle.{Handle}
+use Rattle.rules.specs.declared.kept.Begun.{Begun}
 use Rattle.rules.specs.declared.kept.Facts.{Facts}
+use Rattle.rules.specs.declared.kept.Job.{Job}
 use Rattle.rules.specs.declared.kept.Kept.{Kept}
-use Rattle.rules.specs.Channels.{held_numbers, ended_handles, handles_after}
-use Rattle.rules.specs.Kept.{operation_at}
-use Rattle.rules.specs.After.{facts_of, handles_given, handles_behind, kept_after, kept_of}
-use Rattle.rules.specs.Rules.{is_failing, next_fault, open_numbers, are_channels_right}
+use Rattle.rules.specs.declared.kept.Stage.{Stage}
+use Rattle.rules.specs.declared.kept.Stage.TheVariants.{Fresh as fresh, Next as next, Resetting as resetting, Over as over}
+use Rattle.rules.specs.declared.kept.Turn.{Turn}
+use Rattle.rules.specs.declared.kept.Work.{Work}
+use Rattle.rules.specs.declared.kept.Work.TheVariants.{Rests as rests, Sends as sends, Reads as reads, Writes as writes, Refuses as refuses, Lacks as lacks, Resets as resets, Happens as happens}
+use Rattle.rules.specs.Channels.{handle_of, held_numbers, without_handle, handles_after}
+use Rattle.rules.specs.Kept.{actor_count, job_of, begun_of, begun_operation, operation_at, operation_now}
+use Rattle.rules.specs.After.{decision_of_begun, fresh_begun, jobs_beside, jobs_of_actor, refused_of, decision_at, facts_of, kept_after, kept_of}
+use Rattle.rules.specs.Due.{event_by_stage, reset_by_stage, due_command, due_answer, due}
+use Rattle.rules.specs.Performed.{ends_turn, begins_as, is_sent, is_reset, is_published}
+use Rattle.rules.specs.Rules.{is_failing, next_fault, open_numbers, are_channels_right, is_turn_of, is_begun_at, operation_in_turn, turn_operation, is_response_right, same_answer, has_right_response, has_right_fault}
+use Rattle.rules.specs.Work.{is_finished}
 use Rattle.rules.specs.State.{world_after, world_of}
-use Rattle.performed.specs.Served.{is_served, serves}
-use Rattle.performed.specs.Followed.{is_followed, are_followed}
+use Rattle.performed.specs.Followed.{is_given_or_refused, is_tried, is_followed, are_followed}
 use Rattle.performed.specs.Told.{is_told, are_told}
-use Rattle.performed.proofs.CalmLent.{get_set, steps_card}
-use Rattle.performed.proofs.CalmSends.{ServedOp, served_at, is_calm, no_manage, Sends, exchange_calm, world_insertion, sends_of}
-
--- ---- the handles
-
-none_ended : (b : Bool) (epoch event : ℕ) (handles rest : List Handle) → handles ≡ [] → rest ≡ [] → (if b then ended_handles epoch event handles else rest) ≡ []
-none_ended true epoch event handles rest h g = ap (ended_handles epoch event) h
-none_ended false epoch event handles rest h g = g
-
-served_handles : (a : ℕ) (op : Operation) (given : Answer) (epoch : ℕ) (handles : List Handle) → is_served op ≡ true → handles ≡ [] → handles_after a op given epoch handles ≡ []
-served_handles a (operation.Insert card) given epoch handles h e = e
-served_handles a (operation.Load f) given epoch handles h e = e
-served_handles a operation.Look given epoch handles h e = e
-served_handles a op given epoch handles h e = absurd (true≢false (sym h))
-
-abbrev handles_by : ℕ → Option Operation → Answer → ℕ → List Handle → List Handle
-handles_by a op given epoch handles = elim op [ None ↦ handles | Some o ↦ handles_after a o given epoch handles ]
-
-given_handles : (a : ℕ) (op : Option Operation) (given : Answer) (epoch : ℕ) (handles : List Handle) → ServedOp op → handles ≡ [] → handles_by a op given epoch handles ≡ []
-given_handles a None given epoch handles h e = e
-given_handles a (Some op) given epoch handles h e = served_handles a op given epoch handles h e
-
-no_given : (s : Script) (l : Line) (epoch : ℕ) (handles : List Handle) → serves s ≡ true → handles ≡ [] → handles_given s l epoch handles ≡ []
-no_given s (line.Answered a i given) epoch handles served e = given_handles a (operation_at s a i) given epoch handles (served_at s a i served) e
-no_given s l epoch handles served e = e
-
-no_handles : (s : Script) (l : Line) (epoch : ℕ) (facts : Facts) (handles : List Handle) → serves s ≡ true → handles ≡ [] → handles_behind s l epoch facts handles ≡ []
-no_handles s l epoch facts handles served e = none_ended facts.ends epoch facts.event handles (handles_given s l epoch handles) e (no_given s l epoch handles served e)
-
-pub handles_none : (s : Script) (lines : List Line) → serves s ≡ true → (kept_of s lines).handles ≡ []
-handles_none s [] served = refl
-handles_none s (l ∷ earlier) served = let k = kept_of s earlier in no_handles s l k.history.epoch (facts_of s l k) k.handles served (handles_none s earlier served)
+use Rattle.performed.proofs.TurnsSays.{IsDone, turn_done, says_of, BeginsNow, begins_now}
+use Rattle.performed.proofs.CalmHeld.{held_by}
+use Rattle.performed.proofs.CalmLent.{get_set, steps_card, sent_of}
+use Rattle.performed.proofs.CalmMatch.{same_by_match}
+use Rattle.performed.proofs.CalmPhase.{ClosePhase, same_response_is}
+use Rattle.performed.proofs.CalmExchange.{Right, others_keep}
+use Rattle.performed.proofs.CalmTurn.{held_in, OpenState, led_turn, led_chain, asks, open_goes, close_goes}
+use Rattle.performed.proofs.CalmOps.{keeps_begun, same_operation, begun_now, answered_now, comes_first, unsent}
+use Rattle.performed.proofs.CalmState.{StateOf, fresh_state, open_settled, open_told, close_told, close_settled, opened_right}
+use Rattle.performed.proofs.CalmKnown.{is_channel_op, Given, AllSince, Handles, behind_by, calls, goes_to_reset, Plain, Known}
+use Rattle.performed.proofs.CalmBehind.{actor_is, none_of_framework, same_in, exchange_actor, known_of, plain_state, told_state, over_state, close_moved}
 
 -- ---- the card in the slot
 
@@ -74,23 +66,6 @@ pub record Holds (w : World) : Type 0 where
   pub card : CardState
   pub inside : card_inside w ≡ Some card
   pub basic : numbers card ≡ 0 ∷ []
-
--- a command that is no MANAGE CHANNEL
-same_numbers : (card : CardState) (c : CommandValue) (p : CardState × ResponseValue) → is_calm c.ins ≡ true → ChangesNumbers card c p → numbers p.0 ≡ numbers card
-same_numbers card c p h changed = elim changed.does [
-  | inl keeps ↦ keeps.same
-  | inr other ↦ absurd (elim other [
-    | inl adds ↦ true≢false (sym (eq-eqb c.ins manage_channel_ins adds.ins) ∙ no_manage c.ins h)
-    | inr drops ↦ true≢false (sym (eq-eqb c.ins manage_channel_ins drops.ins) ∙ no_manage c.ins h)
-  ])
-]
-
-step_holds : (w : World) (c : CommandValue) → is_calm c.ins ≡ true → Holds w → Holds (step w c).0
-step_holds w c h at = record {
-  card = (on_card w.changes at.card c).0;
-  inside = steps_card w at.card c at.inside;
-  basic = same_numbers at.card c (on_card w.changes at.card c) h (numbers_effect w.changes at.card c (on_card w.changes at.card c) (effect w.changes at.card c)) ∙ at.basic;
-}
 
 inserted_by : (w : World) (j : ℕ) (o : Option CardState) → slice_get w.cards j ≡ o → is_some o ≡ true → Holds (inserted w j o)
 inserted_by w j None e h = absurd (true≢false (sym h))
@@ -137,51 +112,408 @@ there (Some card) h = refl
 pub done_there : (s : Script) (w : World) (k : Kept) → not (is_failing s w k) ≡ true → is_some (card_inside w) ≡ true
 done_there s w k h = there (card_inside w) (not_or (is_some (next_fault s k)) (is_none (card_inside w)) h)
 
-abbrev Lives : World → Kept → Type 0
-Lives w k = k.history.living ≡ true → Holds w
-
 pub dead : {X : Type 0} → false ≡ true → X
 dead h = absurd (true≢false (sym h))
 
-event_lives : (s : Script) (w : World) (k : Kept) (a : ℕ) (e : WorldEvent) → is_insertion e ≡ true → is_none (refusal_of w e) ≡ true → Lives (after_event w e) (kept_after s (line.World a e) k)
-event_lives s w k a (Insert j) i told = λ h. insert_holds w j told
-event_lives s w k a Out i told = dead i
-event_lives s w k a (Arm j) i told = dead i
+answers_at : (w : World) (j : ℕ) (card : CardState) (c : CommandValue) → slice_get w.cards j ≡ Some card → (step_of_card w j (slice_get w.cards j) c).1 ≡ (on_card w.changes card c).1
+answers_at w j card c h = ap (λ (o : Option CardState). (step_of_card w j o c).1) h
 
-module _ (s : Script) (w : World) (k : Kept) (t : Sends k) (lives : Lives w k) where
-  line_lives : (l : Line) → is_followed s k l ≡ true → is_told s w k l ≡ true → Lives (world_after l w) (kept_after s l k)
-  line_lives (line.Exchange a c r) h told = λ living. step_holds w c (exchange_calm s k a c r t h) (lives living)
+answers_in : (w : World) (card : CardState) (c : CommandValue) (o : Option ℕ) → option_and_then (λ j. slice_get w.cards j) o ≡ Some card → (step_of_place w o c).1 ≡ (on_card w.changes card c).1
+answers_in w card c None h = absurd (cc)
+answers_in w card c (Some j) h = answers_at w j card c h
+
+-- the card's response is the step's
+step_answers : (w : World) (card : CardState) (c : CommandValue) → card_inside w ≡ Some card → (step w c).1 ≡ (on_card w.changes card c).1
+unfolding step
+step_answers w card c h = answers_in w card c w.inside h
+
+-- ---- an epoch begins
+
+unlike_next : (living : Bool) (e epoch : ℕ) → e ≤ epoch → (living && (epoch + 1 == e)) ≡ false
+unlike_next living e epoch l = both living (epoch + 1 == e) (grind arith)
+  where
+    both : (a b : Bool) → b ≡ false → (a && b) ≡ false
+    both true b h = h
+    both false b h = refl
+
+-- no handle is of an epoch that begins
+none_held : (h : Past) (epoch : ℕ) (hs : List Handle) → h.epoch ≡ epoch + 1 → AllSince epoch hs → held_numbers h hs ≡ []
+none_held h epoch [] e t = refl
+none_held h epoch (x ∷ hs) e t =
+    held_by h false x hs (ap (λ (n : ℕ). h.living && (n == x.epoch)) e ∙ unlike_next h.living x.epoch epoch t.0) ∙ none_held h epoch hs e t.1
+
+basic_right : (ns wanted : List ℕ) → ns ≡ 0 ∷ [] → wanted ≡ [] → Right ns wanted
+basic_right ns wanted e f = subst (λ (xs : List ℕ). Right xs wanted) (sym e) (subst (λ (xs : List ℕ). Right (0 ∷ []) xs) (sym f) (record {
+  matches = λ m. zero_first m;
+  apart = (refl, tt);
+  each = tt;
+  beside = refl;
+}))
+  where
+    zero_first : (m : ℕ) → is_one_of m (0 ∷ []) ≡ ((m == 0) || is_one_of m [])
+    zero_first m = ap (λ (b : Bool). b || false) (swapped m)
+      where
+        swapped : (m : ℕ) → (0 == m) ≡ (m == 0)
+        swapped zero = refl
+        swapped (suc m) = grind arith
+
+-- ---- where a turn or an operation begins
+
+module _ (s : Script) (w : World) (k : Kept) where
+  pub record Inside : Type 0 where
+    pub card : CardState
+    pub inside : card_inside w ≡ Some card
+    pub state : StateOf k.turn k.chain k (numbers card) k.turn.actor (turn_operation s k)
+
+  abbrev pub Lives : Type 0
+  Lives = k.history.living ≡ true → Inside
+
+module _ (s : Script) (k : Kept) (g : Given s k) (ns : List ℕ) (living : k.history.living ≡ true) (done : IsDone s k) where
+  none_due : (x : Answer) → due_answer s k ≡ Some x → ⊥
+  none_due x e = absurd (let q : Some x ≡ None = sym e ∙ done.answer in cc)
+
+  settled_by : (o : Option ℕ) (op : Option Operation) → k.turn.actor ≡ o → operation_in_turn s k o ≡ op → StateOf k.turn k.chain k ns o op → Right ns (held_in k)
+  settled_by None op e q st = st
+  settled_by (Some a) None e q st = st
+  settled_by (Some a) (Some (operation.OpenChannel handle aid)) e q st = open_settled s k a e ns g.alive living done.command handle aid q (λ n x. none_due (answer.Opened n) x) st
+  settled_by (Some a) (Some (operation.Close handle)) e q st = close_settled s k a e ns g.alive living done.command handle q done.answer st
+  settled_by (Some a) (Some op) e q st = st
+
+  -- nothing is open that is not held
+  pub settled : StateOf k.turn k.chain k ns k.turn.actor (turn_operation s k) → Right ns (held_in k)
+  settled st = settled_by k.turn.actor (turn_operation s k) refl refl st
+
+module _ (s : Script) (k : Kept) (ns : List ℕ) (right : Right ns (held_in k)) where
+  marked_op : (a : ℕ) (b : Begun) (op : Option Operation) (t : Turn) → t.work ≡ (decision_of_begun k a (Some b) op).work → t.stage ≡ fresh → t.outcome ≡ None → StateOf t None k ns (Some a) op
+  marked_op a b None t work stage came = right
+  marked_op a b (Some op) t work stage came = fresh_state k t ns right stage came a b op work
+
+  marked_by : (a : ℕ) (o : Option Begun) (t : Turn) → t.work ≡ (decision_of_begun k a o (begun_operation s a o)).work → t.stage ≡ fresh → t.outcome ≡ None → StateOf t None k ns (Some a) (begun_operation s a o)
+  marked_by a None t work stage came = right
+  marked_by a (Some b) t work stage came = marked_op a b (operation_at s a b.index) t work stage came
+
+  pub marked : (a : ℕ) → StateOf (kept_after s (line.Turn a) k).turn None k ns (Some a) (operation_now s a (kept_after s (line.Turn a) k).jobs)
+  marked zero = subst (λ (op : Option Operation). StateOf (kept_after s (line.Turn zero) k).turn None k ns (Some zero) op) (sym (none_of_framework s (kept_after s (line.Turn zero) k))) right
+  marked (suc a) = subst (λ (op : Option Operation). StateOf (kept_after s (line.Turn (suc a)) k).turn None k ns (Some (suc a)) op) (sym (same_operation s k (line.Turn (suc a)) (suc a) refl))
+      (marked_by (suc a) (begun_of (suc a) k.jobs) (kept_after s (line.Turn (suc a)) k).turn refl refl refl)
+
+  pub began : (a i : ℕ) → k.turn.stage ≡ fresh → k.turn.outcome ≡ None → StateOf (kept_after s (line.Begin a i) k).turn None k ns (Some a) (operation_now s a (kept_after s (line.Begin a i) k).jobs)
+  began a i stage came = elim (begun_now s k a i) [
+    | inl e ↦ subst (λ (op : Option Operation). StateOf (kept_after s (line.Begin a i) k).turn None k ns (Some a) op) (sym e) (marked_op a (fresh_begun i k.history) (operation_at s a i) (kept_after s (line.Begin a i) k).turn refl stage came)
+    | inr e ↦ subst (λ (op : Option Operation). StateOf (kept_after s (line.Begin a i) k).turn None k ns (Some a) op) (sym e) right
+  ]
+
+-- ---- an exchange
+
+module _ (s : Script) (w : World) (k : Kept) (g : Given s k) (known : Known s k) (a : ℕ) (c : CommandValue) (r : ResponseValue) (followed : is_followed s k (line.Exchange a c r) ≡ true) (card : CardState) (response : r ≡ (on_card w.changes card c).1) where
+  abbrev l : Line
+  l = line.Exchange a c r
+
+  abbrev facts : Facts
+  facts = facts_of s l k
+
+  abbrev beside : List Job
+  beside = jobs_beside l k.history.epoch facts k.selected k.jobs
+
+  abbrev job : Job
+  job = job_of a (jobs_of_actor s l k facts (decision_at s l k).attempt (Some a) beside)
+
+  abbrev refused : Option RefusedReading
+  refused = refused_of k.selected beside facts.answered
+
+  abbrev after : List ℕ
+  after = numbers (on_card w.changes card c).0
+
+  actor : k.turn.actor ≡ Some a
+  actor = actor_is k a (and_parts (is_turn_of a k.turn) (is_sent (due s k) l) followed).0
+
+  sent : has_value (same_command c) (due_command k) ≡ true
+  sent = sent_of s k a c r (and_parts (is_turn_of a k.turn) (is_sent (due s k) l) followed).1
+
+  same_numbers : is_channel_op (operation_now s a k.jobs) ≡ false → after ≡ numbers card
+  same_numbers h = others_keep w.changes card c (g.manage a c r followed (ap (λ (o : Option ℕ). is_channel_op (operation_in_turn s k o)) actor ∙ h))
+
+  right_on : is_channel_op (operation_now s a k.jobs) ≡ false → Right (numbers card) (held_in k) → Right after (held_in k)
+  right_on h right = subst (λ (ns : List ℕ). Right ns (held_in k)) (sym (same_numbers h)) right
+
+  abbrev Goes : Option Operation → Type 0
+  Goes op = StateOf (led_turn k a c r job facts refused op (asks k a c r job facts refused)) (led_chain k a c r job facts refused (asks k a c r job facts refused)) (kept_after s l k) after (Some a) op
+
+  exchange_goes : (op : Option Operation) → operation_now s a k.jobs ≡ op → StateOf k.turn k.chain k (numbers card) (Some a) op → Goes op
+  exchange_goes None e st = right_on (ap is_channel_op e) st
+  exchange_goes (Some (operation.OpenChannel handle aid)) e st = open_goes k a c r job facts refused w.changes card actor sent response handle aid st
+  exchange_goes (Some (operation.Close handle)) e st =
+      let q = close_goes k a c r job facts refused w.changes card actor sent response handle known.handles.refs st in
+      record { closed = q.closed; phase = close_moved (led_turn k a c r job facts refused (Some (operation.Close handle)) (asks k a c r job facts refused)) (led_chain k a c r job facts refused (asks k a c r job facts refused)) k.history (kept_after s l k).history (λ h. refl) (handle_of a handle k.handles) q.closed q.phase; right = q.right }
+  exchange_goes (Some op) e st = right_on (ap is_channel_op e) st
+
+  same_after : operation_in_turn s (kept_after s l k) (kept_after s l k).turn.actor ≡ operation_now s a k.jobs
+  same_after = ap (operation_in_turn s (kept_after s l k)) (exchange_actor s k g known a c r ∙ actor) ∙ same_operation s k l a refl
+
+  pub exchanged : StateOf k.turn k.chain k (numbers card) k.turn.actor (turn_operation s k) → StateOf (kept_after s l k).turn (kept_after s l k).chain (kept_after s l k) after (kept_after s l k).turn.actor (turn_operation s (kept_after s l k))
+  exchanged st =
+      let here : StateOf k.turn k.chain k (numbers card) (Some a) (operation_now s a k.jobs) = subst (λ (o : Option ℕ). StateOf k.turn k.chain k (numbers card) o (operation_in_turn s k o)) actor st in
+      let goes : StateOf (kept_after s l k).turn (kept_after s l k).chain (kept_after s l k) after (Some a) (operation_now s a k.jobs) = exchange_goes (operation_now s a k.jobs) refl here in
+      let named : StateOf (kept_after s l k).turn (kept_after s l k).chain (kept_after s l k) after (Some a) (turn_operation s (kept_after s l k)) =
+      subst (λ (op : Option Operation). StateOf (kept_after s l k).turn (kept_after s l k).chain (kept_after s l k) after (Some a) op) (sym same_after) goes in
+      subst (λ (o : Option ℕ). StateOf (kept_after s l k).turn (kept_after s l k).chain (kept_after s l k) after o (turn_operation s (kept_after s l k))) (sym (exchange_actor s k g known a c r ∙ actor)) named
+
+-- ---- an answer
+
+-- it is the one that is due, or the slot's
+unlike_opened : (given : Answer) (n : ℕ) → same_answer given (answer.Opened n) ≡ true → (m : ℕ) × (given ≡ answer.Opened m)
+unlike_opened (answer.Opened m) n h = (m, refl)
+unlike_opened given n h = absurd (true≢false (sym h))
+
+tried_calls : (work : Work) (stage : Stage) (e : WorldEvent) → calls work ≡ true → event_by_stage work stage ≡ Some e → ⊥
+tried_calls (sends c) fresh e h q = absurd (cc)
+tried_calls rests fresh e h q = absurd (cc)
+tried_calls (reads path) fresh e h q = dead h
+tried_calls writes fresh e h q = dead h
+tried_calls (refuses x) fresh e h q = dead h
+tried_calls (lacks key) fresh e h q = dead h
+tried_calls resets fresh e h q = dead h
+tried_calls (happens x) fresh e h q = dead h
+tried_calls work (next c) e h q = absurd (cc)
+tried_calls work resetting e h q = absurd (cc)
+tried_calls work over e h q = absurd (cc)
+
+module _ (s : Script) (k : Kept) (given : Answer) where
+  pub record GivesIt : Type 0 where
+    pub told : Answer
+    pub is : due_answer s k ≡ Some told
+    pub same : same_answer given told ≡ true
+    pub unsent : due_command k ≡ None
+
+  gives_by : (d : Due) → due s k ≡ d → is_given_or_refused given d ≡ true → Plain k.turn → GivesIt
+  gives_by (give x) e h p = record { told = x; is = says_of s k (give x) e; same = h; unsent = unsent s k (ap (comes_first s k) e) }
+  gives_by (try_event x) e h p = absurd (tried_calls k.turn.work k.turn.stage x p.work (says_of s k (try_event x) e))
+  gives_by d e h p = dead h
+
+module _ (s : Script) (k : Kept) (g : Given s k) (known : Known s k) (a i : ℕ) (given : Answer) (followed : is_followed s k (line.Answered a i given) ≡ true) (ns : List ℕ) (living : k.history.living ≡ true) where
+  turn_is : k.turn.actor ≡ Some a
+  turn_is = actor_is k a (and_parts (is_turn_of a k.turn) (is_begun_at i (begun_of a k.jobs) && is_given_or_refused given (due s k)) followed).0
+
+  begun_is : (is_begun_at i (begun_of a k.jobs) ≡ true) × (is_given_or_refused given (due s k) ≡ true)
+  begun_is = and_parts (is_begun_at i (begun_of a k.jobs)) (is_given_or_refused given (due s k)) (and_parts (is_turn_of a k.turn) (is_begun_at i (begun_of a k.jobs) && is_given_or_refused given (due s k)) followed).1
+
+  at_by : (o : Option Begun) → is_begun_at i o ≡ true → begun_operation s a o ≡ operation_at s a i
+  at_by None h = dead h
+  at_by (Some b) h = ap (operation_at s a) (eqb-true b.index i h)
+
+  -- the operation that is answered is the turn's
+  answers_it : operation_now s a k.jobs ≡ operation_at s a i
+  answers_it = at_by (begun_of a k.jobs) begun_is.0
+
+  abbrev told_by : Option Operation → List Handle
+  told_by op = elim op [ None ↦ k.handles | Some o ↦ handles_after a o given k.history.epoch k.handles ]
+
+  gives : (op : Option Operation) → operation_now s a k.jobs ≡ op → is_channel_op op ≡ true → GivesIt s k given
+  gives op e h = gives_by s k given (due s k) refl begun_is.1 (known.plain (ap (λ (o : Option ℕ). is_channel_op (operation_in_turn s k o)) turn_is ∙ ap is_channel_op e ∙ h))
+
+  open_given : (handle : ℕ) (aid : List ℕ) (x : Answer) → given ≡ x → operation_now s a k.jobs ≡ Some (operation.OpenChannel handle aid) → GivesIt s k given → OpenState k.turn k.chain ns (held_in k) aid → Right ns (held_numbers k.history (handles_after a (operation.OpenChannel handle aid) x k.history.epoch k.handles))
+  open_given handle aid (answer.Opened n) e op t st =
+      let due_is : due_answer s k ≡ Some (answer.Opened n) = opened_due t.told n t.is (subst (λ (y : Answer). same_answer y t.told ≡ true) e t.same) in
+      let free : handle_of a handle k.handles ≡ None = g.free a i handle n aid (subst (λ (y : Answer). is_followed s k (line.Answered a i y) ≡ true) e followed) (sym answers_it ∙ op) in
+      opened_right k ns a handle n living free (open_told s k a turn_is ns g.alive living t.unsent handle aid op n due_is st)
+    where
+      opened_due : (y : Answer) (n : ℕ) → due_answer s k ≡ Some y → same_answer (answer.Opened n) y ≡ true → due_answer s k ≡ Some (answer.Opened n)
+      opened_due (answer.Opened m) n q h = q ∙ ap (λ (z : ℕ). Some (answer.Opened z)) (sym (eqb-true n m (and_parts (n == m) true h).0))
+      opened_due y n q h = dead h
+  open_given handle aid x e op t st = open_settled s k a turn_is ns g.alive living t.unsent handle aid op (λ n q. other n (subst (λ (y : Answer). same_answer y (answer.Opened n) ≡ true) e (subst (λ (y : Answer). same_answer given y ≡ true) (the_same t.told (answer.Opened n) (sym t.is ∙ q)) t.same))) st
+    where
+      the_same : (y z : Answer) → Some y ≡ Some z → y ≡ z
+      the_same y z q = cc
+
+      other : (n : ℕ) → same_answer x (answer.Opened n) ≡ true → ⊥
+      other n h = dead h
+
+  answer_right : (op : Option Operation) → operation_now s a k.jobs ≡ op → StateOf k.turn k.chain k ns (Some a) op → Right ns (held_numbers k.history (told_by op))
+  answer_right None e st = st
+  answer_right (Some (operation.OpenChannel handle aid)) e st = open_given handle aid given refl e (gives (Some (operation.OpenChannel handle aid)) e refl) st
+  answer_right (Some (operation.Close handle)) e st = close_told s k a turn_is ns g.alive living (gives (Some (operation.Close handle)) e refl).unsent handle known.handles.refs st
+  answer_right (Some op) e st = st
+
+  abbrev behind : Kept
+  behind = kept_after s (line.Answered a i given) k
+
+  pub answered : StateOf k.turn k.chain k ns k.turn.actor (turn_operation s k) → StateOf behind.turn behind.chain behind ns behind.turn.actor (turn_operation s behind)
+  answered st =
+      let here : StateOf k.turn k.chain k ns (Some a) (operation_now s a k.jobs) = subst (λ (o : Option ℕ). StateOf k.turn k.chain k ns o (operation_in_turn s k o)) turn_is st in
+      let right : Right ns (held_numbers k.history (told_by (operation_at s a i))) = subst (λ (op : Option Operation). Right ns (held_numbers k.history (told_by op))) answers_it (answer_right (operation_now s a k.jobs) refl here) in
+      subst (λ (o : Option ℕ). StateOf behind.turn behind.chain behind ns o (operation_in_turn s behind o)) (sym turn_is)
+      (subst (λ (op : Option Operation). StateOf behind.turn behind.chain behind ns (Some a) op) (sym (answered_now s k a i given)) right)
+
+-- ---- every line
+
+-- a state is of the handles and of what lives alone
+module _ (t : Turn) (chain : Option Chain) (ns : List ℕ) (k l : Kept) (history : k.history ≡ l.history) (handles : k.handles ≡ l.handles) where
+  right_moved : (more : List ℕ) → Right ns (more ++ held_in k) → Right ns (more ++ held_in l)
+  right_moved more right =
+      subst (λ (hs : List Handle). Right ns (more ++ held_numbers l.history hs)) handles
+      (subst (λ (h : Past). Right ns (more ++ held_numbers h k.handles)) history right)
+
+  pub state_moved : (o : Option ℕ) (op : Option Operation) → StateOf t chain k ns o op → StateOf t chain l ns o op
+  state_moved None op st = right_moved [] st
+  state_moved (Some a) None st = right_moved [] st
+  state_moved (Some a) (Some (operation.OpenChannel handle aid)) st = record { more = st.more; phase = st.phase; right = right_moved st.more st.right }
+  state_moved (Some a) (Some (operation.Close handle)) st = record {
+    closed = st.closed;
+    phase = subst (λ (hs : List Handle). ClosePhase t chain l.history (handle_of a handle hs) st.closed) handles
+        (subst (λ (h : Past). ClosePhase t chain h (handle_of a handle k.handles) st.closed) history st.phase);
+    right = subst (λ (hs : List Handle). Right ns (if st.closed then held_numbers l.history (without_handle a handle hs) else held_numbers l.history hs)) handles
+        (subst (λ (h : Past). Right ns (if st.closed then held_numbers h (without_handle a handle k.handles) else held_numbers h k.handles)) history st.right);
+  }
+  state_moved (Some a) (Some op) st = right_moved [] st
+
+unsent_published : (s : Script) (k : Kept) (n f e v : ℕ) (text : List ℕ) (d : Due) → is_published k n f e v text d ≡ true → comes_first s k d ≡ false
+unsent_published s k n f e v text (publish x) h = refl
+unsent_published s k n f e v text d h = dead h
+
+reset_calls : (work : Work) (stage : Stage) → calls work ≡ true → goes_to_reset stage ≡ false → reset_by_stage work stage ≡ true → ⊥
+reset_calls (sends c) fresh h p q = dead q
+reset_calls rests fresh h p q = dead q
+reset_calls (reads path) fresh h p q = dead h
+reset_calls writes fresh h p q = dead h
+reset_calls (refuses x) fresh h p q = dead h
+reset_calls (lacks key) fresh h p q = dead h
+reset_calls resets fresh h p q = dead h
+reset_calls (happens x) fresh h p q = dead h
+reset_calls work (next c) h p q = dead q
+reset_calls work resetting h p q = dead (sym p)
+reset_calls work over h p q = dead q
+
+module _ (s : Script) (w : World) (k : Kept) (g : Given s k) (known : Known s k) (lives : Lives s w k) where
+  abbrev Next : Line → Type 0
+  Next l = Lives s (world_after l w) (kept_after s l k)
+
+  -- where the turn and its actor stay
+  stays : (l : Line) → keeps_begun l ≡ true → k.history ≡ (kept_after s l k).history → k.handles ≡ (kept_after s l k).handles → (u : Turn) (chain : Option Chain) (ns : List ℕ) → ((o : Option ℕ) (op : Option Operation) → k.turn.actor ≡ o → StateOf k.turn k.chain k ns o op → StateOf u chain k ns o op) → StateOf k.turn k.chain k ns k.turn.actor (turn_operation s k) → StateOf u chain (kept_after s l k) ns k.turn.actor (operation_in_turn s (kept_after s l k) k.turn.actor)
+  stays l e history handles u chain ns moves st = state_moved u chain ns k (kept_after s l k) history handles k.turn.actor (operation_in_turn s (kept_after s l k) k.turn.actor)
+      (subst (λ (op : Option Operation). StateOf u chain k ns k.turn.actor op) (sym (same_in s k l e k.turn.actor)) (moves k.turn.actor (turn_operation s k) refl st))
+
+  turn_lives : (a : ℕ) → is_followed s k (line.Turn a) ≡ true → Next (line.Turn a)
+  turn_lives a h living =
+      let i = lives living in
+      let e : ends_turn (due s k) ≡ true = (and_parts (ends_turn (due s k)) (not (is_finished s k)) (and_parts (ends_turn (due s k) && not (is_finished s k)) (nat_le a (actor_count s)) h).0).0 in
+      let behind : Kept = kept_after s (line.Turn a) k in
+      record {
+        card = i.card;
+        inside = i.inside;
+        state = state_moved behind.turn None (numbers i.card) k behind refl refl (Some a) (operation_now s a behind.jobs) (marked s k (numbers i.card) (settled s k g (numbers i.card) living (turn_done s k e) i.state) a);
+      }
+
+  begin_lives : (a i : ℕ) → is_followed s k (line.Begin a i) ≡ true → Next (line.Begin a i)
+  begin_lives a i h living =
+      let x = lives living in
+      let n : BeginsNow s k a i = begins_now s k a i h in
+      let still = known.bare n.begins.bare in
+      let turn = actor_is k a (and_parts (is_turn_of a k.turn) (begins_as i (due s k)) h).0 in
+      let l : Line = line.Begin a i in
+      record {
+        card = x.card;
+        inside = x.inside;
+        state = subst (λ (o : Option ℕ). StateOf (kept_after s l k).turn None (kept_after s l k) (numbers x.card) o (operation_in_turn s (kept_after s l k) o)) (sym turn)
+            (state_moved (kept_after s l k).turn None (numbers x.card) k (kept_after s l k) refl refl (Some a) (operation_now s a (kept_after s l k).jobs) (began s k (numbers x.card) (settled s k g (numbers x.card) living n.done x.state) a i still.0 still.1));
+      }
+
+  exchange_lives : (a : ℕ) (c : CommandValue) (r : ResponseValue) → is_followed s k (line.Exchange a c r) ≡ true → is_told s w k (line.Exchange a c r) ≡ true → Next (line.Exchange a c r)
+  exchange_lives a c r h told living =
+      let x = lives living in
+      let right : is_response_right w c r ≡ true = (and_parts (has_right_response w (line.Exchange a c r)) (has_right_fault s w k (line.Exchange a c r)) told).0 in
+      let response : r ≡ (on_card w.changes x.card c).1 = same_response_is r (step w c).1 (and_parts (is_some (card_inside w)) (same_response r (step w c).1) right).1 ∙ step_answers w x.card c x.inside in
+      record {
+        card = (on_card w.changes x.card c).0;
+        inside = steps_card w x.card c x.inside;
+        state = exchanged s w k g known a c r h x.card response x.state;
+      }
+
+  unlike_reset : (a : ℕ) → is_followed s k (line.Reset a) ≡ true → is_channel_op (turn_operation s k) ≡ false
+  unlike_reset a h = by_op (is_channel_op (turn_operation s k)) refl
+    where
+      by_due : (d : Due) → due s k ≡ d → is_reset d ≡ true → Plain k.turn → ⊥
+      by_due reset_due e t p = reset_calls k.turn.work k.turn.stage p.work p.stage (says_of s k reset_due e)
+      by_due d e t p = dead t
+
+      by_op : (b : Bool) → is_channel_op (turn_operation s k) ≡ b → b ≡ false
+      by_op false e = refl
+      by_op true e = absurd (by_due (due s k) refl (and_parts (is_turn_of a k.turn) (is_reset (due s k)) h).1 (known.plain e))
+
+  unlike_event : (a : ℕ) (x : WorldEvent) → is_followed s k (line.World a x) ≡ true → is_channel_op (turn_operation s k) ≡ false
+  unlike_event a x h = by_op (is_channel_op (turn_operation s k)) refl
+    where
+      by_due : (d : Due) → due s k ≡ d → is_tried x d ≡ true → Plain k.turn → ⊥
+      by_due (try_event y) e t p = tried_calls k.turn.work k.turn.stage y p.work (says_of s k (try_event y) e)
+      by_due d e t p = dead t
+
+      by_op : (b : Bool) → is_channel_op (turn_operation s k) ≡ b → b ≡ false
+      by_op false e = refl
+      by_op true e = absurd (by_due (due s k) refl (and_parts (is_turn_of a k.turn) (is_tried x (due s k)) h).1 (known.plain e))
+
+  -- a card whose basic channel alone is open, in an epoch that begins
+  begins_epoch_lives : (l : Line) → is_followed s k l ≡ true → keeps_begun l ≡ true → (kept_after s l k).history.epoch ≡ k.history.epoch + 1 → (kept_after s l k).turn.actor ≡ k.turn.actor → is_channel_op (turn_operation s k) ≡ false → Holds (world_after l w) → Inside s (world_after l w) (kept_after s l k)
+  begins_epoch_lives l h keeps epoch actor none at =
+      let behind : Kept = kept_after s l k in
+      let op : is_channel_op (turn_operation s behind) ≡ false = ap is_channel_op (ap (operation_in_turn s behind) actor ∙ same_in s k l keeps k.turn.actor) ∙ none in
+      let hs : Handles k.history.epoch behind.handles = behind_by s k g known.handles (facts_of s l k).ends l (facts_of s l k).event h in
+      let right : Right (numbers at.card) (held_in behind) = basic_right (numbers at.card) (held_in behind) at.basic (none_held behind.history k.history.epoch behind.handles epoch hs.since) in
+      record { card = at.card; inside = at.inside; state = plain_state behind.turn behind.chain behind (numbers at.card) behind.turn.actor (turn_operation s behind) op right }
+
+  event_lives : (a : ℕ) (x : WorldEvent) → is_insertion x ≡ true → is_followed s k (line.World a x) ≡ true → is_none (refusal_of w x) ≡ true → Next (line.World a x)
+  event_lives a (Insert j) i h told living = begins_epoch_lives (line.World a (Insert j)) h refl refl refl (unlike_event a (Insert j) h) (insert_holds w j told)
+  event_lives a Out i h told living = dead i
+  event_lives a (Arm j) i h told living = dead i
+
+  pub line_lives : (l : Line) → is_followed s k l ≡ true → is_told s w k l ≡ true → Next l
+  line_lives (line.Turn a) h told = turn_lives a h
+  line_lives (line.Begin a i) h told = begin_lives a i h
+  line_lives (line.Exchange a c r) h told = exchange_lives a c r h told
   line_lives (line.Failed a c d) h told = λ living. dead living
-  line_lives (line.Reset a) h told = λ living. reset_holds w (done_there s w k told)
+  line_lives (line.Reset a) h told = λ living. begins_epoch_lives (line.Reset a) h refl refl refl (unlike_reset a h) (reset_holds w (done_there s w k told))
   line_lives (line.ResetFailed a) h told = λ living. dead living
-  line_lives (line.World a e) h told = event_lives s w k a e (world_insertion s k a e t h) told
-  line_lives (line.Turn a) h told = lives
-  line_lives (line.Begin a i) h told = lives
-  line_lives (line.Published n f e v text) h told = lives
-  line_lives (line.EpochEnd n e v) h told = lives
-  line_lives (line.Refused f n) h told = lives
-  line_lives (line.Answered a i given) h told = lives
-
--- while an epoch lives
-pub lives_of : (s : Script) (lines : List Line) → serves s ≡ true → are_followed s lines ≡ true → are_told s lines ≡ true → Lives (world_of s lines) (kept_of s lines)
-lives_of s [] served followed told = λ living. dead living
-lives_of s (l ∷ earlier) served followed told =
-    let p = and_parts (are_followed s earlier) (is_followed s (kept_of s earlier) l) followed in
-    let q = and_parts (are_told s earlier) (is_told s (world_of s earlier) (kept_of s earlier) l) told in
-    line_lives s (world_of s earlier) (kept_of s earlier) (sends_of s earlier served p.0) (lives_of s earlier served p.0 q.0) l p.1 q.1
+  line_lives (line.World a e) h told = event_lives a e (g.insertion a e h) h told
+  line_lives (line.Published n f e v text) h told = λ living.
+      let x = lives living in
+      let l : Line = line.Published n f e v text in
+      let u : Turn = (kept_after s l k).turn in
+      record { card = x.card; inside = x.inside; state = stays l refl refl refl u None (numbers x.card) (over_state k (numbers x.card) (unsent s k (unsent_published s k n f e v text (due s k) h)) u refl refl refl) x.state }
+  line_lives (line.EpochEnd n e v) h told = λ living.
+      let x = lives living in
+      let l : Line = line.EpochEnd n e v in
+      let u : Turn = (kept_after s l k).turn in
+      record { card = x.card; inside = x.inside; state = stays l refl refl refl u None (numbers x.card) (λ o op e st. told_state k.turn k.chain k (numbers x.card) u refl refl refl refl o op st) x.state }
+  line_lives (line.Refused f n) h told = λ living.
+      let x = lives living in
+      let l : Line = line.Refused f n in
+      let u : Turn = (kept_after s l k).turn in
+      record { card = x.card; inside = x.inside; state = stays l refl refl refl u None (numbers x.card) (λ o op e st. told_state k.turn k.chain k (numbers x.card) u refl refl refl refl o op st) x.state }
+  line_lives (line.Answered a i given) h told = λ living.
+      let x = lives living in
+      record { card = x.card; inside = x.inside; state = answered s k g known a i given h (numbers x.card) living x.state }
 
 -- ---- the rule of channels
 
-open_same : (w : World) (k : Kept) → k.handles ≡ [] → Holds w → has_value (λ card. same_channels (open_numbers card) (held_numbers k.history k.handles)) (card_inside w) ≡ true
-open_same w k none at =
-    ap (has_value (λ card. same_channels (open_numbers card) (held_numbers k.history k.handles))) at.inside
-    ∙ ap (λ (ns : List ℕ). same_channels ns (held_numbers k.history k.handles)) at.basic
-    ∙ ap (λ (handles : List Handle). same_channels (0 ∷ []) (held_numbers k.history handles)) none
+-- what other proofs give of a script
+abbrev pub GivenOf : Script → Type 0
+GivenOf s = (lines : List Line) → are_followed s lines ≡ true → Given s (kept_of s lines)
+
+pub lives_of : (s : Script) → GivenOf s → (lines : List Line) → are_followed s lines ≡ true → are_told s lines ≡ true → Lives s (world_of s lines) (kept_of s lines)
+lives_of s g [] followed told = λ living. dead living
+lives_of s g (l ∷ earlier) followed told =
+    let p = and_parts (are_followed s earlier) (is_followed s (kept_of s earlier) l) followed in
+    let q = and_parts (are_told s earlier) (is_told s (world_of s earlier) (kept_of s earlier) l) told in
+    line_lives s (world_of s earlier) (kept_of s earlier) (g earlier p.0) (known_of s g earlier p.0) (lives_of s g earlier p.0 q.0) l p.1 q.1
 
 while_living : (b x : Bool) → (b ≡ true → x ≡ true) → elim b [ false ↦ true | true ↦ x ] ≡ true
 while_living false x h = refl
 while_living true x h = h refl
 
--- while an epoch lives, the card's open channels are the basic one and those held
-pub channels_right : (s : Script) (lines : List Line) → keeps_rules s ≡ true → serves s ≡ true → are_followed s lines ≡ true → are_told s lines ≡ true → are_channels_right (world_of s lines) (kept_of s lines) ≡ true
-channels_right s lines rules served followed told = while_living (kept_of s lines).history.living (has_value (λ card. same_channels (open_numbers card) (held_numbers (kept_of s lines).history (kept_of s lines).handles)) (card_inside (world_of s lines))) (λ living. open_same (world_of s lines) (kept_of s lines) (handles_none s lines served) (lives_of s lines served followed told living))
+-- at the end of each turn, while an epoch lives, the card's open channels are the basic one and those held
+pub channels_right : (s : Script) → GivenOf s → (lines : List Line) → are_followed s lines ≡ true → are_told s lines ≡ true → ends_turn (due s (kept_of s lines)) ≡ true → are_channels_right (world_of s lines) (kept_of s lines) ≡ true
+channels_right s g lines followed told ends =
+    let w : World = world_of s lines in
+    let k : Kept = kept_of s lines in
+    while_living k.history.living (has_value (λ card. same_channels (open_numbers card) (held_numbers k.history k.handles)) (card_inside w)) (λ living.
+    let x = lives_of s g lines followed told living in
+    let right = settled s k (g lines followed) (numbers x.card) living (turn_done s k ends) x.state in
+    ap (has_value (λ card. same_channels (open_numbers card) (held_numbers k.history k.handles))) x.inside ∙ same_by_match (numbers x.card) (held_in k) right.matches)

@@ -1,248 +1,159 @@
--- Over a script that is served the board shows of each family what the card shows: no file changes once a card is inside.
-use Rattle.std.proofs.Common.{◌≡◌, ◌≤◌, ℕ, zero, suc, ◌+◌, ◌-◌, ◌==◌, ◌&&◌, ◌||◌, Bool, true, false, if◌then◌else◌, Option, Some, None, List, [], ◌∷◌, map, refl, ap, sym, ◌∙◌, subst, arith, true≢false}
-use Rattle.std.specs.Prelude.{slice_get, slice_set, unwrap_or, option_and_then, is_some, is_none}
-use Rattle.std.specs.List.{list_all}
-use Rattle.std.proofs.lemmas.Bool.{and_parts, and_from, eqb-true}
+-- Over a script that is served the board shows of each family what the card shows, or the family is stale, or a reading of it was refused
+-- that began behind the last change: an application's UPDATE alone changes what a card shows, and makes each wanted family stale.
+use Rattle.std.proofs.Common.{◌≡◌, ◌⊎◌, inl, inr, ◌≤◌, ◌<◌, ℕ, zero, suc, ◌+◌, ◌-◌, ◌==◌, ◌&&◌, ◌||◌, Bool, true, false, if◌then◌else◌, Option, Some, None, List, [], ◌∷◌, map, refl, ap, sym, ◌∙◌, subst, arith, true≢false}
+use Rattle.std.specs.Prelude.{slice_get, unwrap_or, option_map, find, is_some, is_none, not, nat_lt, max}
+use Rattle.std.specs.List.{list_all, list_any}
+use Rattle.std.proofs.lemmas.Bool.{and_parts, and_from, eqb-true, ltb-true, ltb-false}
 use Rattle.apdu.specs.Values.{CommandValue, ResponseValue}
-use Rattle.apdu.specs.Words.{is_one_of, is_empty, same_bytes}
-use Rattle.apdu.specs.Apdu.{is_update_ins}
-use Rattle.card_model.specs.declared.world.Fault.{Fault}
-use Rattle.card_model.specs.declared.world.FileState.{FileState}
-use Rattle.card_model.specs.declared.world.Change.{Change}
-use Rattle.card_model.specs.declared.world.CardState.{CardState}
+use Rattle.apdu.specs.Words.{has_value, is_one_of, same_bytes}
+use Rattle.apdu.specs.Apdu.{is_update_ins, is_success}
 use Rattle.card_model.specs.declared.world.World.{World}
 use Rattle.card_model.specs.declared.world.WorldEvent.{WorldEvent}
 use Rattle.card_model.specs.declared.world.WorldEvent.TheVariants.{Arm, Out, Insert}
-use Rattle.card_model.specs.Card.{first_armed}
-use Rattle.card_model.specs.Slot.{fault_at, refusal_of}
-use Rattle.card_model.specs.Step.{on_card, card_inside, step, step_of_card, step_of_place, reset_card, inserted, after_event, reset_in, after_reset}
-use Rattle.card_effects.specs.Effect.{Effect, quiet, refuses_select, reads_record, reads_binary, gets, selects, updates_record, updates_binary, opens, closes, hands_over}
-use Rattle.card_effects.proofs.Effects.{effect}
-use Rattle.card_effects.proofs.Basic.{effect_aids}
+use Rattle.card_model.specs.Slot.{refusal_of}
+use Rattle.card_model.specs.Step.{card_inside}
 use Rattle.card_effects.proofs.Same.{same_bytes_is}
-use Rattle.script_reader.specs.declared.types.CardSpec.{CardSpec}
 use Rattle.script_reader.specs.declared.types.Script.{Script}
 use Rattle.script_reader.specs.Rules.{keeps_rules}
-use Rattle.script_reader.specs.World.{card_of, first_world}
 use Rattle.report.specs.declared.line.Line.{Line}
 use Rattle.report.specs.declared.line.Line.TheVariants as line
-use Rattle.families.specs.Families.{all_families, shown}
+use Rattle.families.specs.Families.{all_families, family_paths, iccid_path, imsi_path, ad_path, spn_path, msisdn_path, ext5_path, dir_path, adn_path, ext1_path, fdn_path, ext2_path}
+use Rattle.epoch_cache.specs.declared.cached.Touch.{Touch}
+use Rattle.epoch_cache.specs.declared.cached.Written.TheVariants as written
+use Rattle.epoch_cache.specs.Cache.{handed_refresh, is_refreshed, is_update, is_row_update, is_raw_write, touch_exchanged, is_renewed, renews_one}
 use Rattle.epoch_cache.specs.Past.{is_insertion}
+use Rattle.loader.specs.declared.reading.RefusedReading.{RefusedReading}
 use Rattle.rules.specs.declared.due.Due.{Due}
 use Rattle.rules.specs.declared.due.Due.TheVariants.{Publish as publish}
 use Rattle.rules.specs.declared.kept.Kept.{Kept}
 use Rattle.rules.specs.declared.standing.Standing.{Standing}
-use Rattle.rules.specs.Standing.{first_standing, standing_after}
-use Rattle.rules.specs.After.{facts_of, refused_of, jobs_beside, family_begun, kept_after, kept_of}
+use Rattle.rules.specs.LookingBack.{is_wanted}
+use Rattle.rules.specs.Standing.{first_standing, settled_by, unless_settled, latest, shown_behind, standing_by, standing_after, refused_in, is_stale, first_stale}
+use Rattle.rules.specs.After.{is_raw_line, facts_of, refused_of, jobs_beside, family_begun, kept_of}
 use Rattle.rules.specs.Due.{due, kept_text}
 use Rattle.rules.specs.Performed.{ends_turn, is_published}
-use Rattle.rules.specs.Work.{is_quiet}
-use Rattle.rules.specs.Rules.{has_right_response, has_right_fault, next_fault, is_failing, is_acting, same_flag, is_refusal_known, is_shown_right, is_standing_right, is_rest_right}
-use Rattle.rules.specs.State.{content_on, shown_on, shown_in, same_shown, text_of, texts_after, texts_of, world_after, world_of, State, state_of}
+use Rattle.rules.specs.Work.{has_begun, has_work, has_work_alive, is_quiet, is_starting}
+use Rattle.rules.specs.Rules.{has_right_response, has_right_fault, is_refusal_known, is_shown_right, is_standing_right, is_rest_right}
+use Rattle.rules.specs.State.{shown_in, same_shown, text_of, texts_of, world_after, world_of, state_of}
 use Rattle.rules.specs.Laws.{ShowsCard}
 use Rattle.rules.specs.Legal.{changed_in}
 use Rattle.rules.specs.Agreement.{are_responses_right}
-use Rattle.performed.specs.Served.{is_served, serves}
+use Rattle.performed.specs.Served.{serves}
 use Rattle.performed.specs.Followed.{is_followed, are_followed}
 use Rattle.performed.specs.Told.{is_told, are_told}
-use Rattle.performed.proofs.CalmLent.{get_set, steps_card, card_there, state_world, state_kept, state_texts}
-use Rattle.performed.proofs.CalmSends.{is_calm, no_update, Sends, exchange_calm, world_insertion, sends_of}
-use Rattle.performed.proofs.CalmArmed.{stays_unarmed}
-use Rattle.performed.proofs.CalmCards.{dead, done_there, insert_empty}
-
--- ---- nothing is armed on any card
-
-abbrev AllUnarmed : List CardState → Type 0
-AllUnarmed [] = Unit {0}
-AllUnarmed (card ∷ cards) = (card.armed ≡ []) × AllUnarmed cards
-
-unarmed_get : (cards : List CardState) (j : ℕ) (card : CardState) → AllUnarmed cards → slice_get cards j ≡ Some card → card.armed ≡ []
-unarmed_get [] j card t h = absurd (cc)
-unarmed_get (x ∷ cards) zero card t h = let same : x ≡ card = cc in subst (λ (y : CardState). y.armed ≡ []) same t.0
-unarmed_get (x ∷ cards) (suc j) card t h = unarmed_get cards j card t.1 h
-
-unarmed_set : (cards : List CardState) (j : ℕ) (card : CardState) → AllUnarmed cards → card.armed ≡ [] → AllUnarmed (slice_set cards j card)
-unarmed_set [] j card t h = tt
-unarmed_set (x ∷ cards) zero card t h = (h, t.1)
-unarmed_set (x ∷ cards) (suc j) card t h = (t.0, unarmed_set cards j card t.1 h)
-
-unarmed_first : (specs : List CardSpec) → AllUnarmed (map card_of specs)
-unarmed_first [] = tt
-unarmed_first (spec ∷ specs) = (refl, unarmed_first specs)
-
-unarmed_step_at : (w : World) (j : ℕ) (c : CommandValue) (o : Option CardState) → slice_get w.cards j ≡ o → AllUnarmed w.cards → AllUnarmed (step_of_card w j o c).0.cards
-unarmed_step_at w j c None e t = t
-unarmed_step_at w j c (Some card) e t = unarmed_set w.cards j (on_card w.changes card c).0 t (stays_unarmed w.changes card c (unarmed_get w.cards j card t e))
-
-unarmed_step_in : (w : World) (c : CommandValue) (o : Option ℕ) → AllUnarmed w.cards → AllUnarmed (step_of_place w o c).0.cards
-unarmed_step_in w c None t = t
-unarmed_step_in w c (Some j) t = unarmed_step_at w j c (slice_get w.cards j) refl t
-
-unarmed_step : (w : World) (c : CommandValue) → AllUnarmed w.cards → AllUnarmed (step w c).0.cards
-unfolding step
-unarmed_step w c t = unarmed_step_in w c w.inside t
-
-unarmed_inserted : (w : World) (j : ℕ) (o : Option CardState) → slice_get w.cards j ≡ o → AllUnarmed w.cards → AllUnarmed (inserted w j o).cards
-unarmed_inserted w j None e t = t
-unarmed_inserted w j (Some card) e t = unarmed_set w.cards j (reset_card card) t (unarmed_get w.cards j card t e)
-
-unarmed_insert : (w : World) (j : ℕ) → AllUnarmed w.cards → AllUnarmed (after_event w (Insert j)).cards
-unfolding after_event
-unarmed_insert w j t = unarmed_inserted w j (slice_get w.cards j) refl t
-
-unarmed_reset_in : (w : World) (o : Option ℕ) → AllUnarmed w.cards → AllUnarmed (reset_in w o).cards
-unarmed_reset_in w None t = t
-unarmed_reset_in w (Some j) t = unarmed_inserted w j (slice_get w.cards j) refl t
-
-unarmed_reset : (w : World) → AllUnarmed w.cards → AllUnarmed (after_reset w).cards
-unfolding after_reset
-unarmed_reset w t = unarmed_reset_in w w.inside t
-
-unarmed_failed : (w : World) (a : ℕ) (c : CommandValue) (d : Bool) → AllUnarmed w.cards → AllUnarmed (world_after (line.Failed a c d) w).cards
-unarmed_failed w a c true t = unarmed_step w c t
-unarmed_failed w a c false t = t
-
-unarmed_event : (w : World) (e : WorldEvent) → is_insertion e ≡ true → AllUnarmed w.cards → AllUnarmed (after_event w e).cards
-unarmed_event w (Insert j) i t = unarmed_insert w j t
-unarmed_event w Out i t = dead i
-unarmed_event w (Arm j) i t = dead i
-
-unarmed_line : (s : Script) (w : World) (k : Kept) (l : Line) → Sends k → is_followed s k l ≡ true → AllUnarmed w.cards → AllUnarmed (world_after l w).cards
-unarmed_line s w k (line.Exchange a c r) sends h t = unarmed_step w c t
-unarmed_line s w k (line.Failed a c d) sends h t = unarmed_failed w a c d t
-unarmed_line s w k (line.Reset a) sends h t = unarmed_reset w t
-unarmed_line s w k (line.ResetFailed a) sends h t = t
-unarmed_line s w k (line.World a e) sends h t = unarmed_event w e (world_insertion s k a e sends h) t
-unarmed_line s w k (line.Turn a) sends h t = t
-unarmed_line s w k (line.Begin a i) sends h t = t
-unarmed_line s w k (line.Published n f e v text) sends h t = t
-unarmed_line s w k (line.EpochEnd n e v) sends h t = t
-unarmed_line s w k (line.Refused f n) sends h t = t
-unarmed_line s w k (line.Answered a i given) sends h t = t
-
-unarmed_of : (s : Script) (lines : List Line) → serves s ≡ true → are_followed s lines ≡ true → AllUnarmed (world_of s lines).cards
-unarmed_of s [] served h = unarmed_first s.cards
-unarmed_of s (l ∷ earlier) served h =
-    let p = and_parts (are_followed s earlier) (is_followed s (kept_of s earlier) l) h in
-    unarmed_line s (world_of s earlier) (kept_of s earlier) l (sends_of s earlier served p.0) p.1 (unarmed_of s earlier served p.0)
-
-inside_unarmed : (w : World) (card : CardState) → AllUnarmed w.cards → card_inside w ≡ Some card → card.armed ≡ []
-inside_unarmed w card t h = by_place w.inside h
-  where
-    by_place : (o : Option ℕ) → option_and_then (λ j. slice_get w.cards j) o ≡ Some card → card.armed ≡ []
-    by_place None e = absurd (cc)
-    by_place (Some j) e = unarmed_get w.cards j card t e
-
--- ---- the files stay
-
-none_armed : (changes : List Change) (card : CardState) (change : Change) → card.armed ≡ [] → first_armed changes card ≡ Some change → ⊥
-none_armed changes card change h e = absurd (let n : first_armed changes card ≡ None = ap (λ (armed : List ℕ). option_and_then (slice_get changes) (slice_get armed 0)) h in cc)
-
-files_stay : (changes : List Change) (card : CardState) (c : CommandValue) (p : CardState × ResponseValue) → is_calm c.ins ≡ true → card.armed ≡ [] → Effect changes card c p → p.0.files ≡ card.files
-files_stay changes card c p h none (quiet k e) = k.files
-files_stay changes card c p h none (refuses_select number place channel on e d) = d.keeps.files
-files_stay changes card c p h none (reads_record number place channel on e d) = d.keeps.files
-files_stay changes card c p h none (reads_binary number place channel on e d) = d.keeps.files
-files_stay changes card c p h none (gets number place channel on e d) = d.keeps.files
-files_stay changes card c p h none (selects number place channel on e d) = d.files
-files_stay changes card c p h none (updates_record number place channel on e d) = absurd (true≢false (sym (ap is_update_ins e) ∙ no_update c.ins h))
-files_stay changes card c p h none (updates_binary number place channel on e d) = absurd (true≢false (sym (ap is_update_ins e) ∙ no_update c.ins h))
-files_stay changes card c p h none (opens e d) = d.files
-files_stay changes card c p h none (closes e d) = d.files
-files_stay changes card c p h none (hands_over e d) = absurd (none_armed changes card d.change none d.armed)
-
--- what the card with these files and applications shows
-abbrev text_with : CardState → List FileState → List (List ℕ) → ℕ → List ℕ
-text_with card files aids f = shown f (content_on (Some (record card { files = files; aids = aids })))
-
-text_same : (old new : CardState) (f : ℕ) → new.files ≡ old.files → new.aids ≡ old.aids → shown f (content_on (Some new)) ≡ shown f (content_on (Some old))
-text_same old new f files aids = ap (λ (x : List FileState). text_with new x new.aids f) files ∙ ap (λ (x : List (List ℕ)). text_with new old.files x f) aids
-
--- the card in the slot stays as far as files and applications go
-shown_same : (w v : World) (old new : CardState) (f : ℕ) → card_inside w ≡ Some old → card_inside v ≡ Some new → new.files ≡ old.files → new.aids ≡ old.aids → shown_in v f ≡ shown_in w f
-shown_same w v old new f before behind files aids = ap (λ (o : Option CardState). shown_on o f) behind ∙ ap (λ (text : List ℕ). Some text) (text_same old new f files aids) ∙ sym (ap (λ (o : Option CardState). shown_on o f) before)
-
-step_shown : (w : World) (a : ℕ) (c : CommandValue) (r : ResponseValue) (f : ℕ) → AllUnarmed w.cards → is_calm c.ins ≡ true → has_right_response w (line.Exchange a c r) ≡ true → shown_in (step w c).0 f ≡ shown_in w f
-step_shown w a c r f unarmed h right =
-    let t = card_there w c r right in
-    let p : CardState × ResponseValue = on_card w.changes t.0 c in
-    let does : Effect w.changes t.0 c p = effect w.changes t.0 c in
-    shown_same w (step w c).0 t.0 p.0 f t.1 (steps_card w t.0 c t.1) (files_stay w.changes t.0 c p h (inside_unarmed w t.0 unarmed t.1) does) (effect_aids w.changes t.0 c p does)
-
-reset_by : (w : World) (card : CardState) (o : Option ℕ) → option_and_then (λ j. slice_get w.cards j) o ≡ Some card → card_inside (reset_in w o) ≡ Some (reset_card card)
-reset_by w card None e = absurd (cc)
-reset_by w card (Some j) e = reset_at (slice_get w.cards j) refl
-  where
-    reset_at : (o : Option CardState) → slice_get w.cards j ≡ o → card_inside (inserted w j o) ≡ Some (reset_card card)
-    reset_at None h = absurd (cc)
-    reset_at (Some k) h = let same : k ≡ card = cc in get_set w.cards j k (reset_card k) h ∙ ap (λ (x : CardState). Some (reset_card x)) same
-
-reset_inside : (w : World) (card : CardState) → card_inside w ≡ Some card → card_inside (after_reset w) ≡ Some (reset_card card)
-unfolding after_reset
-reset_inside w card h = reset_by w card w.inside h
-
-reset_shown : (w : World) (f : ℕ) (o : Option CardState) → card_inside w ≡ o → is_some o ≡ true → shown_in (after_reset w) f ≡ shown_in w f
-reset_shown w f None e h = dead h
-reset_shown w f (Some card) e h = shown_same w (after_reset w) card (reset_card card) f e (reset_inside w card e) refl refl
-
--- ---- no call fails, but a reset of an empty slot
-
-no_faults : (faults : List Fault) (call : ℕ) → is_empty faults ≡ true → is_some (fault_at call faults) ≡ false
-no_faults [] call h = refl
-no_faults (f ∷ faults) call h = dead h
-
-never_failed : (s : Script) (w : World) (k : Kept) (a : ℕ) (c : CommandValue) (d : Bool) → serves s ≡ true → is_told s w k (line.Failed a c d) ≡ true → ⊥
-never_failed s w k a c d served told =
-    let p = and_parts (is_some (card_inside w)) (is_failing s w k && same_flag d (is_acting s w k)) told in
-    let q = and_parts (is_failing s w k) (same_flag d (is_acting s w k)) p.1 in
-    neither (is_some (next_fault s k)) (card_inside w) (no_faults s.faults (k.history.calls + 1) (and_parts (list_all (list_all is_served) s.actors) (is_empty s.faults) served).1) p.0 q.0
-  where
-    neither : (planned : Bool) (o : Option CardState) → planned ≡ false → is_some o ≡ true → (planned || is_none o) ≡ true → ⊥
-    neither planned None n h f = true≢false (sym h)
-    neither true (Some card) n h f = true≢false n
-    neither false (Some card) n h f = true≢false (sym f)
+use Rattle.performed.proofs.CalmLent.{state_world, state_kept, state_texts}
+use Rattle.performed.proofs.CalmSends.{exchange_update, world_insertion, sends_of}
+use Rattle.performed.proofs.CalmCards.{dead, insert_empty}
+use Rattle.performed.proofs.LegalWorld.{lives_inside}
+use Rattle.performed.proofs.TurnsKept.{quiet_touch}
+use Rattle.performed.proofs.TurnsPhase.{publishes}
+use Rattle.performed.proofs.WantedFamilies.{or_later, or_now, IsWanted, AreWanted, standings_wanted, turn_wants}
+use Rattle.performed.proofs.CalmShown.{unarmed_of, step_shown, step_inside, reset_some, never_failed, some_shown}
+use Rattle.performed.proofs.LastChange.{changed_upto, changed_same}
 
 -- ---- what the board shows
 
--- a publication that the card still shows
-record IsTrue (w : World) (count : ℕ) (texts : List (List ℕ)) (f n : ℕ) : Type 0 where
-  upto : n ≤ count
-  text : same_shown (shown_in w f) (Some (text_of count n texts)) ≡ true
+-- what the board is compared with: the world, the publications with their texts, and the last event that changed what the card shows
+record Seen : Type 0 where
+  world : World
+  count : ℕ
+  texts : List (List ℕ)
+  changed : ℕ → ℕ
 
-abbrev IsShown : World → ℕ → List (List ℕ) → ℕ → Option ℕ → Type 0
-IsShown w count texts f None = Unit {0}
-IsShown w count texts f (Some n) = IsTrue w count texts f n
+-- a publication that the card still shows, one of a family that is stale since its last renewal, or one of a family of which a later
+-- reading was refused
+data IsKnown (b : Seen) (st : Standing) (n : ℕ) : Type 0 where
+  current : same_shown (shown_in b.world st.family) (Some (text_of b.count n b.texts)) ≡ true → IsKnown b st n
+  stale : st.stale ≡ Some st.renewed → b.changed st.family ≤ st.renewed → IsKnown b st n
+  refused : (r : ℕ) → st.refused ≡ Some r → st.renewed < r → b.changed st.family < r → IsKnown b st n
 
-record StandsTrue (w : World) (count : ℕ) (texts : List (List ℕ)) (st : Standing) : Type 0 where
+record IsTrue (b : Seen) (st : Standing) (n : ℕ) : Type 0 where
+  upto : n ≤ b.count
+  wanted : st.wanted ≡ true
+  inside : is_some (card_inside b.world) ≡ true
+  known : IsKnown b st n
+
+abbrev IsShown : Seen → Standing → Option ℕ → Type 0
+IsShown b st None = Unit {0}
+IsShown b st (Some n) = IsTrue b st n
+
+record StandsTrue (b : Seen) (st : Standing) : Type 0 where
   known : is_one_of st.family all_families ≡ true
-  shows : IsShown w count texts st.family st.shown
+  shows : IsShown b st st.shown
 
-abbrev AllTrue : World → ℕ → List (List ℕ) → List Standing → Type 0
-AllTrue w count texts [] = Unit {0}
-AllTrue w count texts (st ∷ rest) = StandsTrue w count texts st × AllTrue w count texts rest
+abbrev AllTrue : Seen → List Standing → Type 0
+AllTrue b [] = Unit {0}
+AllTrue b (st ∷ rest) = StandsTrue b st × AllTrue b rest
 
-module _ (w v : World) (count later : ℕ) (texts more : List (List ℕ)) (change : Standing → Standing) (one : (st : Standing) → StandsTrue w count texts st → StandsTrue v later more (change st)) where
-  all_map : (standings : List Standing) → AllTrue w count texts standings → AllTrue v later more (map change standings)
-  all_map [] t = tt
-  all_map (st ∷ rest) t = (one st t.0, all_map rest t.1)
+module _ (s : Script) (lines : List Line) (b v : Seen) (change : Standing → Standing) (one : (st : Standing) → IsWanted s lines st → StandsTrue b st → StandsTrue v (change st)) where
+  all_map : (standings : List Standing) → AreWanted s lines standings → AllTrue b standings → AllTrue v (map change standings)
+  all_map [] a t = tt
+  all_map (st ∷ rest) a t = (one st a.0 t.0, all_map rest a.1 t.1)
 
-first_true : (w : World) (texts : List (List ℕ)) (families : List ℕ) → list_all (λ f. is_one_of f all_families) families ≡ true → AllTrue w 0 texts (map first_standing families)
-first_true w texts [] h = tt
-first_true w texts (f ∷ families) h = let p = and_parts (is_one_of f all_families) (list_all (λ g. is_one_of g all_families) families) h in (record { known = p.0; shows = tt }, first_true w texts families p.1)
+first_true : (b : Seen) (families : List ℕ) → list_all (λ f. is_one_of f all_families) families ≡ true → AllTrue b (map first_standing families)
+first_true b [] h = tt
+first_true b (f ∷ families) h = let p = and_parts (is_one_of f all_families) (list_all (λ g. is_one_of g all_families) families) h in (record { known = p.0; shows = tt }, first_true b families p.1)
 
--- the world changes, and the card shows the same
-shown_by : (w v : World) (count : ℕ) (texts : List (List ℕ)) (f : ℕ) (o : Option ℕ) → shown_in v f ≡ shown_in w f → IsShown w count texts f o → IsShown v count texts f o
-shown_by w v count texts f None same t = tt
-shown_by w v count texts f (Some n) same t = record { upto = t.upto; text = ap (λ (x : Option (List ℕ)). same_shown x (Some (text_of count n texts))) same ∙ t.text }
+-- ---- what stays known
 
--- a card is put in, where nothing was shown
-shown_before : (w v : World) (count : ℕ) (texts : List (List ℕ)) (f : ℕ) (o : Option ℕ) → card_inside w ≡ None → IsShown w count texts f o → IsShown v count texts f o
-shown_before w v count texts f None empty t = tt
-shown_before w v count texts f (Some n) empty t = dead (sym (ap (λ (x : Option CardState). same_shown (shown_on x f) (Some (text_of count n texts))) empty) ∙ t.text)
+known_by : (b v : Seen) (st : Standing) (n : ℕ) → shown_in v.world st.family ≡ shown_in b.world st.family → text_of v.count n v.texts ≡ text_of b.count n b.texts → v.changed st.family ≡ b.changed st.family → IsKnown b st n → IsKnown v st n
+known_by b v st n shows text changed (current h) = current (ap (λ (o : Option (List ℕ)). same_shown o (Some (text_of v.count n v.texts))) shows ∙ ap (λ (x : List ℕ). same_shown (shown_in b.world st.family) (Some x)) text ∙ h)
+known_by b v st n shows text changed (stale at h) = stale at (subst (λ (m : ℕ). m ≤ st.renewed) (sym changed) h)
+known_by b v st n shows text changed (refused r at h g) = refused r at h (subst (λ (m : ℕ). m < r) (sym changed) g)
 
-none_by : (o : Option CardState) → is_some o ≡ false → o ≡ None
-none_by None h = refl
-none_by (Some card) h = absurd (true≢false h)
+-- a refused reading that is known stays so
+latest_least : (before : Option ℕ) (r : ℕ) → (m : ℕ) × ((latest (Some r) before ≡ Some m) × (r ≤ m))
+latest_least None r = (r, (refl, omega arith))
+latest_least (Some b) r = by_order (nat_lt r b) refl
+  where
+    by_order : (t : Bool) → nat_lt r b ≡ t → (m : ℕ) × (((if t then Some b else Some r) ≡ Some m) × (r ≤ m))
+    by_order true e = (b, (refl, let h = ltb-true r b e in omega (arith, h)))
+    by_order false e = (r, (refl, omega arith))
+
+latest_kept : (now : Option ℕ) (r : ℕ) → (m : ℕ) × ((latest now (Some r) ≡ Some m) × (r ≤ m))
+latest_kept None r = (r, (refl, omega arith))
+latest_kept (Some a) r = by_order (nat_lt a r) refl
+  where
+    by_order : (t : Bool) → nat_lt a r ≡ t → (m : ℕ) × (((if t then Some r else Some a) ≡ Some m) × (r ≤ m))
+    by_order true e = (r, (refl, omega arith))
+    by_order false e = (a, (refl, let h = ltb-false a r e in omega (arith, h)))
+
+less_than : (n r m : ℕ) → n < r → r ≤ m → n < m
+less_than n r m h g = omega (arith, h, g)
+
+under : (n m r : ℕ) → n ≤ m → m < r → n < r
+under n m r h g = omega (arith, h, g)
+
+-- what a line does to a standing, where it publishes nothing of its family
+module _ (b : Seen) (l : Line) (event : ℕ) (now begun : Option ℕ) (st : Standing) (n : ℕ) where
+  abbrev StaysKnown : Bool → Type 0
+  StaysKnown renews = IsKnown b (standing_by l event renews now begun st) n
+
+  -- stale since the event
+  renewed_known : b.changed st.family ≤ event → StaysKnown true
+  renewed_known past = stale refl past
+
+  unsettled_known : settled_by st.family l now ≡ now → b.changed st.family ≤ st.renewed → st.stale ≡ Some st.renewed → (o : Option ℕ) → now ≡ o → StaysKnown false
+  unsettled_known none past at None e = stale (ap (λ (x : Option ℕ). unless_settled x st.stale) (none ∙ e) ∙ ap (unless_settled None) at) past
+  unsettled_known none past at (Some r) e = by_point (nat_lt st.renewed r) refl
+    where
+      is_settled : unless_settled (settled_by st.family l now) st.stale ≡ (if nat_lt st.renewed r then None else Some st.renewed)
+      is_settled = ap (λ (x : Option ℕ). unless_settled x st.stale) (none ∙ e) ∙ ap (unless_settled (Some r)) at
+
+      by_point : (t : Bool) → nat_lt st.renewed r ≡ t → StaysKnown false
+      by_point true q =
+          let m = latest_least st.refused r in
+          let later : st.renewed < m.0 = less_than st.renewed r m.0 (ltb-true st.renewed r q) m.1.1 in
+          refused m.0 (ap (λ (x : Option ℕ). latest x st.refused) e ∙ m.1.0) later (under (b.changed st.family) st.renewed m.0 past later)
+      by_point false q = stale (is_settled ∙ ap (λ (t : Bool). if t then None else Some st.renewed) q) past
+
+  goes_known : (renews : Bool) → settled_by st.family l now ≡ now → b.changed st.family ≤ event → IsKnown b st n → StaysKnown renews
+  goes_known true none past k = renewed_known past
+  goes_known false none past (current h) = current h
+  goes_known false none past (stale at h) = unsettled_known none h at now refl
+  goes_known false none past (refused r at h g) =
+      let m = latest_kept now r in
+      refused m.0 (ap (latest now) at ∙ m.1.0) (less_than st.renewed r m.0 h m.1.1) (less_than (b.changed st.family) r m.0 g m.1.1)
 
 -- one publication more
 text_later : (count n : ℕ) (text : List ℕ) (texts : List (List ℕ)) → n ≤ count → text_of (count + 1) n (text ∷ texts) ≡ text_of count n texts
@@ -257,21 +168,44 @@ text_new count text texts = ap (λ (i : ℕ). unwrap_or (slice_get (text ∷ tex
     itself : (count : ℕ) → (count + 1) - (count + 1) ≡ 0
     itself count = omega arith
 
-more_than : (n count : ℕ) → n ≤ count → n ≤ count + 1
-more_than n count h = omega (arith, h)
+to_more : (count : ℕ) → count ≤ count + 1
+to_more count = omega arith
 
-to_itself : (count : ℕ) → count + 1 ≤ count + 1
-to_itself count = omega arith
+-- ---- a standing behind a line
 
-shown_later : (w : World) (count : ℕ) (text : List ℕ) (texts : List (List ℕ)) (f : ℕ) (o : Option ℕ) → IsShown w count texts f o → IsShown w (count + 1) (text ∷ texts) f o
-shown_later w count text texts f None t = tt
-shown_later w count text texts f (Some n) t = record {
-  upto = more_than n count t.upto;
-  text = ap (λ (x : List ℕ). same_shown (shown_in w f) (Some x)) (text_later count n text texts t.upto) ∙ t.text;
-}
+module _ (b v : Seen) (l : Line) (event : ℕ) (now begun : Option ℕ) (st : Standing) (count : b.count ≤ v.count) (inside : is_some (card_inside b.world) ≡ true → is_some (card_inside v.world) ≡ true) where
+  upto_later : (n : ℕ) → n ≤ b.count → n ≤ v.count
+  upto_later n h = omega (arith, h, count)
 
-shown_new : (w : World) (count : ℕ) (text : List ℕ) (texts : List (List ℕ)) (f : ℕ) → same_shown (shown_in w f) (Some text) ≡ true → IsTrue w (count + 1) (text ∷ texts) f (count + 1)
-shown_new w count text texts f h = record { upto = to_itself count; text = ap (λ (x : List ℕ). same_shown (shown_in w f) (Some x)) (text_new count text texts) ∙ h }
+  -- the card shows the same
+  shown_still : (renews : Bool) → settled_by st.family l now ≡ now → shown_in v.world st.family ≡ shown_in b.world st.family → ((n : ℕ) → n ≤ b.count → text_of v.count n v.texts ≡ text_of b.count n b.texts) → v.changed st.family ≡ b.changed st.family → b.changed st.family ≤ event → (o : Option ℕ) → IsShown b st o → IsShown v (standing_by l event renews now begun st) o
+  shown_still renews none shows text changed past None t = tt
+  shown_still renews none shows text changed past (Some n) t = record {
+    upto = upto_later n t.upto;
+    wanted = or_now st.wanted (has_value (λ f. f == st.family) begun) t.wanted;
+    inside = inside t.inside;
+    known = goes_known v l event now begun st n renews none (subst (λ (m : ℕ). m ≤ event) (sym changed) past) (known_by b v st n shows (text n t.upto) changed t.known);
+  }
+
+  -- each wanted family is renewed
+  shown_renewed : (renews : Bool) → (st.wanted ≡ true → renews ≡ true) → v.changed st.family ≤ event → (o : Option ℕ) → IsShown b st o → IsShown v (standing_by l event renews now begun st) o
+  shown_renewed renews all past None t = tt
+  shown_renewed renews all past (Some n) t = record {
+    upto = upto_later n t.upto;
+    wanted = or_now st.wanted (has_value (λ f. f == st.family) begun) t.wanted;
+    inside = inside t.inside;
+    known = subst (λ (x : Bool). IsKnown v (standing_by l event x now begun st) n) (sym (all t.wanted)) (renewed_known v l event now begun st n past);
+  }
+
+-- a line that renews every path makes each family stale
+some_renewed : (t : Touch) (f : ℕ) → ((path : List ℕ) → is_renewed t path ≡ true) → is_one_of f all_families ≡ true → renews_one t (family_paths f) ≡ true
+some_renewed t zero all h = or_now (is_renewed t iccid_path) (renews_one t (imsi_path ∷ ad_path ∷ spn_path ∷ msisdn_path ∷ ext5_path ∷ dir_path ∷ [])) (all iccid_path)
+some_renewed t (suc zero) all h = or_now (is_renewed t adn_path) (renews_one t (ext1_path ∷ [])) (all adn_path)
+some_renewed t (suc (suc zero)) all h = or_now (is_renewed t fdn_path) (renews_one t (ext2_path ∷ [])) (all fdn_path)
+some_renewed t (suc (suc (suc n))) all h = absurd (true≢false (sym h ∙ no_family n))
+  where
+    no_family : (n : ℕ) → is_one_of (suc (suc (suc n))) all_families ≡ false
+    no_family n = grind arith
 
 -- ---- a publication that follows
 
@@ -297,13 +231,6 @@ module _ (shows : ShowsCard) (s : Script) (earlier : List Line) (rules : keeps_r
       let q1 = and_parts (f == g) (number == k.publications + 1) q2.0 in
       record { next = eqb-true number (k.publications + 1) q1.1; shown = publication_shows f g text (eqb-true f g q1.0) (same_bytes_is text (kept_text f k) q4.1) is }
   publication_by number f e n text d is h = dead h
-
-  shown_behind_true : (number f e n : ℕ) (text : List ℕ) (st : Standing) (texts : List (List ℕ)) → IsToldTrue w k number f text → StandsTrue w k.publications texts st → (b : Bool) → (f == st.family) ≡ b → IsShown w (k.publications + 1) (text ∷ texts) st.family (if b then Some number else st.shown)
-  shown_behind_true number f e n text st texts told t false h = shown_later w k.publications text texts st.family st.shown t.shows
-  shown_behind_true number f e n text st texts told t true h =
-      let family : f ≡ st.family = eqb-true f st.family h in
-      let shows : same_shown (shown_in w st.family) (Some text) ≡ true = subst (λ (x : ℕ). same_shown (shown_in w x) (Some text) ≡ true) family (told.shown (subst (λ (x : ℕ). is_one_of x all_families ≡ true) (sym family) t.known)) in
-      subst (λ (x : ℕ). IsTrue w (k.publications + 1) (text ∷ texts) st.family x) (sym told.next) (shown_new w k.publications text texts st.family shows)
 
 -- ---- the answers of the card
 
@@ -333,62 +260,115 @@ responses_right s (l ∷ earlier) h =
 abbrev standing_behind : Script → Kept → Line → Standing → Standing
 standing_behind s k l st = standing_after l (facts_of s l k).event (facts_of s l k).touch (refused_of k.selected (jobs_beside l k.history.epoch (facts_of s l k) k.selected k.jobs) (facts_of s l k).answered) (family_begun s l) st
 
-abbrev BoardTrue : World → ℕ → List (List ℕ) → Kept → Type 0
-BoardTrue w count texts k = AllTrue w count texts k.standings
+-- what the board is compared with behind the lines
+abbrev seen : Script → List Line → Seen
+seen s lines = record { world = world_of s lines; count = (kept_of s lines).publications; texts = texts_of lines; changed = changed_in s lines }
 
-event_board : (s : Script) (w : World) (k : Kept) (texts : List (List ℕ)) (a : ℕ) (e : WorldEvent) → is_insertion e ≡ true → is_none (refusal_of w e) ≡ true → BoardTrue w k.publications texts k → BoardTrue (after_event w e) k.publications texts (kept_after s (line.World a e) k)
-event_board s w k texts a (Insert j) i told t = all_map w (after_event w (Insert j)) k.publications k.publications texts texts (standing_behind s k (line.World a (Insert j))) (λ st q. record { known = q.known; shows = shown_before w (after_event w (Insert j)) k.publications texts st.family st.shown (none_by (card_inside w) (insert_empty w j told)) q.shows }) k.standings t
-event_board s w k texts a Out i told t = dead i
-event_board s w k texts a (Arm j) i told t = dead i
+abbrev BoardTrue : Script → List Line → Type 0
+BoardTrue s lines = AllTrue (seen s lines) (kept_of s lines).standings
 
-module _ (shows : ShowsCard) (s : Script) (earlier : List Line) (rules : keeps_rules s ≡ true) (served : serves s ≡ true) (followed : are_followed s earlier ≡ true) (told : are_told s earlier ≡ true) (t : BoardTrue (world_of s earlier) (kept_of s earlier).publications (texts_of earlier) (kept_of s earlier)) where
+-- an UPDATE that was done and is an application's renews every path
+raw_renews : (raw : Bool) (selected : Option (List ℕ)) (c : CommandValue) (r : ResponseValue) (path : List ℕ) → is_update c r ≡ true → raw ≡ true → is_renewed (touch_exchanged raw selected c r) path ≡ true
+raw_renews raw selected c r path h g = by_write (is_update c r) raw h g
+  where
+    by_write : (b raw : Bool) → b ≡ true → raw ≡ true → (false || is_raw_write (if not b then written.Nothing else if raw then written.Raw else if is_row_update c && is_some selected then written.Row else written.Unknown) || has_value (is_refreshed path) (handed_refresh c r)) ≡ true
+    by_write true true e q = refl
+    by_write true false e q = dead q
+    by_write false raw e q = dead e
+
+module _ (shows : ShowsCard) (s : Script) (earlier : List Line) (rules : keeps_rules s ≡ true) (served : serves s ≡ true) (followed : are_followed s earlier ≡ true) (told : are_told s earlier ≡ true) (t : BoardTrue s earlier) where
   abbrev before : World
   before = world_of s earlier
 
   abbrev kept : Kept
   kept = kept_of s earlier
 
-  abbrev texts : List (List ℕ)
-  texts = texts_of earlier
+  abbrev event : ℕ
+  event = kept.history.events + 1
+
+  -- nothing is published
+  abbrev after : Line → Seen
+  after l = record { world = world_after l before; count = kept.publications; texts = texts_of earlier; changed = changed_in s (l ∷ earlier) }
 
   abbrev Behind : Line → Type 0
-  Behind l = BoardTrue (world_after l before) (kept_after s l kept).publications (texts_after l texts) (kept_after s l kept)
+  Behind l = AllTrue (after l) (map (standing_behind s kept l) kept.standings)
 
-  -- nothing is published, and the card shows the same
-  same_board : (v : World) → ((f : ℕ) → shown_in v f ≡ shown_in before f) → (change : Standing → Standing) → ((st : Standing) → (change st).family ≡ st.family) → ((st : Standing) → (change st).shown ≡ st.shown) → AllTrue v kept.publications texts (map change kept.standings)
-  same_board v same change family shown = all_map before v kept.publications kept.publications texts texts change (λ st q. record {
-    known = ap (λ (f : ℕ). is_one_of f all_families) (family st) ∙ q.known;
-    shows = subst (λ (f : ℕ). IsShown v kept.publications texts f (change st).shown) (sym (family st)) (subst (λ (o : Option ℕ). IsShown v kept.publications texts st.family o) (sym (shown st)) (shown_by before v kept.publications texts st.family st.shown (same st.family) q.shows));
-  }) kept.standings t
+  abbrev refused_now : Line → Option RefusedReading
+  refused_now l = refused_of kept.selected (jobs_beside l kept.history.epoch (facts_of s l kept) kept.selected kept.jobs) (facts_of s l kept).answered
 
-  exchange_board : (a : ℕ) (c : CommandValue) (r : ResponseValue) → is_followed s kept (line.Exchange a c r) ≡ true → is_told s before kept (line.Exchange a c r) ≡ true → Behind (line.Exchange a c r)
-  exchange_board a c r h told_now = same_board (step before c).0 (λ f. step_shown before a c r f (unarmed_of s earlier served followed) (exchange_calm s kept a c r (sends_of s earlier served followed) h) (told_response s before kept (line.Exchange a c r) told_now)) (standing_behind s kept (line.Exchange a c r)) (λ st. refl) (λ st. refl)
+  past_event : (f : ℕ) → changed_in s earlier f ≤ event
+  past_event f = let h = changed_upto s f earlier in omega (arith, h)
 
-  published_board : (number f e n : ℕ) (text : List ℕ) → is_followed s kept (line.Published number f e n text) ≡ true → Behind (line.Published number f e n text)
+  itself : (n : ℕ) → n ≤ n
+  itself n = omega arith
+
+  -- and the card shows the same
+  same_board : (l : Line) → ((f : ℕ) (x : Option ℕ) → settled_by f l x ≡ x) → ((f : ℕ) (o : Option ℕ) → shown_behind f l o ≡ o) → (is_some (card_inside before) ≡ true → is_some (card_inside (world_after l before)) ≡ true) → ((f : ℕ) → shown_in (world_after l before) f ≡ shown_in before f) → Behind l
+  same_board l settles told_still inside same = all_map s earlier (seen s earlier) (after l) (standing_behind s kept l) (λ st a q. record {
+    known = q.known;
+    shows = subst (λ (o : Option ℕ). IsShown (after l) (standing_behind s kept l st) o) (sym (told_still st.family st.shown))
+        (shown_still (seen s earlier) (after l) l event (refused_in st.family (refused_now l)) (family_begun s l) st (itself kept.publications) inside (st.wanted && renews_one (facts_of s l kept).touch (family_paths st.family)) (settles st.family (refused_in st.family (refused_now l))) (same st.family) (λ n h. refl) (changed_same s st.family l earlier (same st.family)) (past_event st.family) st.shown q.shows);
+  }) kept.standings (standings_wanted s earlier) t
+
+  -- or each wanted family is renewed
+  renewed_board : (l : Line) → ((f : ℕ) (o : Option ℕ) → shown_behind f l o ≡ o) → (is_some (card_inside before) ≡ true → is_some (card_inside (world_after l before)) ≡ true) → ((path : List ℕ) → is_renewed (facts_of s l kept).touch path ≡ true) → ((f : ℕ) → changed_in s (l ∷ earlier) f ≤ event) → Behind l
+  renewed_board l told_still inside renews past = all_map s earlier (seen s earlier) (after l) (standing_behind s kept l) (λ st a q. record {
+    known = q.known;
+    shows = subst (λ (o : Option ℕ). IsShown (after l) (standing_behind s kept l st) o) (sym (told_still st.family st.shown))
+        (shown_renewed (seen s earlier) (after l) l event (refused_in st.family (refused_now l)) (family_begun s l) st (itself kept.publications) inside (st.wanted && renews_one (facts_of s l kept).touch (family_paths st.family)) (λ w. and_from st.wanted (renews_one (facts_of s l kept).touch (family_paths st.family)) w (some_renewed (facts_of s l kept).touch st.family renews q.known)) (past st.family) st.shown q.shows);
+  }) kept.standings (standings_wanted s earlier) t
+
+  exchange_by : (a : ℕ) (c : CommandValue) (r : ResponseValue) → is_followed s kept (line.Exchange a c r) ≡ true → has_right_response before (line.Exchange a c r) ≡ true → (b : Bool) → is_update c r ≡ b → Behind (line.Exchange a c r)
+  exchange_by a c r h right false e = same_board (line.Exchange a c r) (λ f x. refl) (λ f o. refl) (λ i. step_inside before a c r right) (λ f. step_shown before a c r f (unarmed_of s earlier served followed) e right)
+  exchange_by a c r h right true e =
+      let update : is_update_ins c.ins ≡ true = (and_parts (is_update_ins c.ins) (is_success r.sw) e).0 in
+      renewed_board (line.Exchange a c r) (λ f o. refl) (λ i. step_inside before a c r right) (λ path. raw_renews (is_raw_line s (line.Exchange a c r) kept.jobs) kept.selected c r path e (exchange_update s kept a c r (sends_of s earlier served followed) h update)) (λ f. changed_upto s f (line.Exchange a c r ∷ earlier))
+
+  event_by : (a : ℕ) (e : WorldEvent) → is_insertion e ≡ true → is_none (refusal_of before e) ≡ true → Behind (line.World a e)
+  event_by a (Insert j) i untold = renewed_board (line.World a (Insert j)) (λ f o. refl) (λ inside. dead (sym (insert_empty before j untold) ∙ inside)) (λ path. refl) (λ f. changed_upto s f (line.World a (Insert j) ∷ earlier))
+  event_by a Out i untold = dead i
+  event_by a (Arm j) i untold = dead i
+
+  published_shown : (number f e n : ℕ) (text : List ℕ) → is_published kept number f e n text (due s kept) ≡ true → IsToldTrue before kept number f text → (st : Standing) → IsWanted s earlier st → StandsTrue (seen s earlier) st → (b : Bool) → (f == st.family) ≡ b → IsShown (seen s (line.Published number f e n text ∷ earlier)) (standing_behind s kept (line.Published number f e n text) st) (if b then Some number else st.shown)
+  published_shown number f e n text h is st a q false g =
+      shown_still (seen s earlier) (seen s (line.Published number f e n text ∷ earlier)) (line.Published number f e n text) event None None st (to_more kept.publications) (λ i. i) (st.wanted && renews_one quiet_touch (family_paths st.family))
+      (ap (λ (b : Bool). if b then Some n else None) g) refl (λ m u. text_later kept.publications m text (texts_of earlier) u) refl (past_event st.family) st.shown q.shows
+  published_shown number f e n text h is st a q true g =
+      let family : f ≡ st.family = eqb-true f st.family g in
+      let known : is_one_of f all_families ≡ true = subst (λ (x : ℕ). is_one_of x all_families ≡ true) (sym family) q.known in
+      let shown : same_shown (shown_in before st.family) (Some text) ≡ true = subst (λ (x : ℕ). same_shown (shown_in before x) (Some text) ≡ true) family (is.shown known) in
+      let asked : is_wanted s st.family earlier ≡ true = subst (λ (x : ℕ). is_wanted s x earlier ≡ true) family (turn_wants s earlier f (publishes s kept number f e n text h).family) in
+      subst (λ (m : ℕ). IsTrue (seen s (line.Published number f e n text ∷ earlier)) (standing_behind s kept (line.Published number f e n text) st) m) (sym is.next) (record {
+        upto = itself (kept.publications + 1);
+        wanted = or_now st.wanted false (a.wanted ∙ asked);
+        inside = some_shown (card_inside before) st.family text shown;
+        known = current (ap (λ (x : List ℕ). same_shown (shown_in before st.family) (Some x)) (text_new kept.publications text (texts_of earlier)) ∙ shown);
+      })
+
+  published_board : (number f e n : ℕ) (text : List ℕ) → is_published kept number f e n text (due s kept) ≡ true → BoardTrue s (line.Published number f e n text ∷ earlier)
   published_board number f e n text h =
-      let right = responses_right s earlier told in
-      let is = publication_by shows s earlier rules right number f e n text (due s kept) refl h in
-      all_map before before kept.publications (kept.publications + 1) texts (text ∷ texts) (standing_behind s kept (line.Published number f e n text)) (λ st q. record { known = q.known; shows = shown_behind_true shows s earlier rules right number f e n text st texts is q (f == st.family) refl }) kept.standings t
+      let is = publication_by shows s earlier rules (responses_right s earlier told) number f e n text (due s kept) refl h in
+      all_map s earlier (seen s earlier) (seen s (line.Published number f e n text ∷ earlier)) (standing_behind s kept (line.Published number f e n text)) (λ st a q. record { known = q.known; shows = published_shown number f e n text h is st a q (f == st.family) refl }) kept.standings (standings_wanted s earlier) t
 
-  ended_board : (number e n : ℕ) → Behind (line.EpochEnd number e n)
-  ended_board number e n = all_map before before kept.publications (kept.publications + 1) texts ([] ∷ texts) (standing_behind s kept (line.EpochEnd number e n)) (λ st q. record { known = q.known; shows = tt }) kept.standings t
+  ended_board : (number e n : ℕ) → BoardTrue s (line.EpochEnd number e n ∷ earlier)
+  ended_board number e n = all_map s earlier (seen s earlier) (seen s (line.EpochEnd number e n ∷ earlier)) (standing_behind s kept (line.EpochEnd number e n)) (λ st a q. record { known = q.known; shows = tt }) kept.standings (standings_wanted s earlier) t
 
-  line_board : (l : Line) → is_followed s kept l ≡ true → is_told s before kept l ≡ true → Behind l
-  line_board (line.Exchange a c r) h told_now = exchange_board a c r h told_now
+  line_board : (l : Line) → is_followed s kept l ≡ true → is_told s before kept l ≡ true → BoardTrue s (l ∷ earlier)
+  line_board (line.Exchange a c r) h told_now = exchange_by a c r h (told_response s before kept (line.Exchange a c r) told_now) (is_update c r) refl
   line_board (line.Failed a c d) h told_now = absurd (never_failed s before kept a c d served told_now)
-  line_board (line.Reset a) h told_now = same_board (after_reset before) (λ f. reset_shown before f (card_inside before) refl (done_there s before kept told_now)) (standing_behind s kept (line.Reset a)) (λ st. refl) (λ st. refl)
-  line_board (line.ResetFailed a) h told_now = same_board before (λ f. refl) (standing_behind s kept (line.ResetFailed a)) (λ st. refl) (λ st. refl)
-  line_board (line.World a e) h told_now = event_board s before kept texts a e (world_insertion s kept a e (sends_of s earlier served followed) h) told_now t
-  line_board (line.Turn a) h told_now = same_board before (λ f. refl) (standing_behind s kept (line.Turn a)) (λ st. refl) (λ st. refl)
-  line_board (line.Begin a i) h told_now = same_board before (λ f. refl) (standing_behind s kept (line.Begin a i)) (λ st. refl) (λ st. refl)
+  line_board (line.Reset a) h told_now = renewed_board (line.Reset a) (λ f o. refl) (λ i. reset_some before (card_inside before) refl i) (λ path. refl) (λ f. changed_upto s f (line.Reset a ∷ earlier))
+  line_board (line.ResetFailed a) h told_now = same_board (line.ResetFailed a) (λ f x. refl) (λ f o. refl) (λ i. i) (λ f. refl)
+  line_board (line.World a e) h told_now = event_by a e (world_insertion s kept a e (sends_of s earlier served followed) h) told_now
+  line_board (line.Turn a) h told_now = same_board (line.Turn a) (λ f x. refl) (λ f o. refl) (λ i. i) (λ f. refl)
+  line_board (line.Begin a i) h told_now = same_board (line.Begin a i) (λ f x. refl) (λ f o. refl) (λ i. i) (λ f. refl)
   line_board (line.Published number f e n text) h told_now = published_board number f e n text h
   line_board (line.EpochEnd number e n) h told_now = ended_board number e n
-  line_board (line.Refused f n) h told_now = same_board before (λ f. refl) (standing_behind s kept (line.Refused f n)) (λ st. refl) (λ st. refl)
-  line_board (line.Answered a i given) h told_now = same_board before (λ f. refl) (standing_behind s kept (line.Answered a i given)) (λ st. refl) (λ st. refl)
+  line_board (line.Refused f n) h told_now = same_board (line.Refused f n) (λ f x. refl) (λ f o. refl) (λ i. i) (λ f. refl)
+  line_board (line.Answered a i given) h told_now = same_board (line.Answered a i given) (λ f x. refl) (λ f o. refl) (λ i. i) (λ f. refl)
 
--- the board shows of each family what the card shows
-board_true : ShowsCard → (s : Script) (lines : List Line) → keeps_rules s ≡ true → serves s ≡ true → are_followed s lines ≡ true → are_told s lines ≡ true → BoardTrue (world_of s lines) (kept_of s lines).publications (texts_of lines) (kept_of s lines)
-board_true shows s [] rules served followed told = first_true (first_world s) [] all_families refl
+-- the board shows of each family what the card shows, or the family is stale, or a later reading of it was refused
+board_true : ShowsCard → (s : Script) (lines : List Line) → keeps_rules s ≡ true → serves s ≡ true → are_followed s lines ≡ true → are_told s lines ≡ true → BoardTrue s lines
+board_true shows s [] rules served followed told = first_true (seen s []) all_families refl
 board_true shows s (l ∷ earlier) rules served followed told =
     let p = and_parts (are_followed s earlier) (is_followed s (kept_of s earlier) l) followed in
     let q = and_parts (are_told s earlier) (is_told s (world_of s earlier) (kept_of s earlier) l) told in
@@ -396,31 +376,91 @@ board_true shows s (l ∷ earlier) rules served followed told =
 
 -- ---- the rule of rest
 
-unless_shown : (b x : Bool) → b ≡ true → elim b [ true ↦ true | false ↦ x ] ≡ true
-unless_shown true x h = refl
-unless_shown false x h = dead h
+-- where nothing is open in a living epoch, no family is stale
+no_open : (a b c d : Bool) → not (a || b || c || d) ≡ true → d ≡ false
+no_open a b c false h = refl
+no_open a b c true h = dead (sym (ap not (or_later (a || b || c) true refl)) ∙ h)
 
-shown_right : (w : World) (count : ℕ) (texts : List (List ℕ)) (changed : ℕ → ℕ) (st : Standing) (o : Option ℕ) → IsShown w count texts st.family o → is_shown_right w (λ n. text_of count n texts) changed st o ≡ true
-shown_right w count told changed st None t = refl
-shown_right w count told changed st (Some n) t = unless_shown (same_shown (shown_in w st.family) (Some (text_of count n told))) (is_refusal_known changed st) t.text
+no_work : (a b c : Bool) → not (a || (b && c)) ≡ true → b ≡ true → not c ≡ true
+no_work false true c h e = h
+no_work true true c h e = dead h
+no_work a false c h e = dead e
 
-all_right : (w : World) (count : ℕ) (texts : List (List ℕ)) (changed : ℕ → ℕ) (standings : List Standing) → AllTrue w count texts standings → list_all (is_standing_right w (λ n. text_of count n texts) changed) standings ≡ true
-all_right w count told changed [] t = refl
-all_right w count told changed (st ∷ rest) t = and_from (is_standing_right w (λ n. text_of count n told) changed st) (list_all (is_standing_right w (λ n. text_of count n told) changed) rest) (shown_right w count told changed st st.shown t.0.shows) (all_right w count told changed rest t.1)
+quiet_none : (k : Kept) → is_quiet k ≡ true → k.history.living ≡ true → is_some (first_stale k.standings) ≡ false
+quiet_none k h living =
+    let q = and_parts (not (list_any has_begun k.jobs)) (not (has_work k)) h in
+    no_open (is_starting k) (is_some k.owed) (is_some k.history.announced) (is_some (first_stale k.standings)) (no_work k.history.owes_reset k.history.living (has_work_alive k) q.1 living)
 
-while_quiet : (b x : Bool) → x ≡ true → elim b [ false ↦ true | true ↦ x ] ≡ true
+shown_or_known : (shown known : Bool) → (shown ≡ true) ⊎ (known ≡ true) → elim shown [ true ↦ true | false ↦ known ] ≡ true
+shown_or_known true known h = refl
+shown_or_known false known (inl h) = dead h
+shown_or_known false known (inr h) = h
+
+both_less : (a b r : ℕ) → a < r → b < r → nat_lt (max a b) r ≡ true
+both_less a b r h g = grind (arith, h, g)
+
+module _ (b : Seen) where
+  abbrev IsRight : Standing → Bool
+  IsRight st = is_standing_right b.world (λ n. text_of b.count n b.texts) b.changed st
+
+  refusal_right : (st : Standing) (r : ℕ) → st.refused ≡ Some r → st.renewed < r → b.changed st.family < r → is_refusal_known b.changed st ≡ true
+  refusal_right st r at h g = ap (has_value (nat_lt (max st.renewed (b.changed st.family)))) at ∙ both_less st.renewed (b.changed st.family) r h g
+
+  known_right : (st : Standing) (n : ℕ) → is_stale st ≡ false → IsKnown b st n → is_shown_right b.world (λ n. text_of b.count n b.texts) b.changed st (Some n) ≡ true
+  known_right st n fresh (current h) = shown_or_known (same_shown (shown_in b.world st.family) (Some (text_of b.count n b.texts))) (is_refusal_known b.changed st) (inl h)
+  known_right st n fresh (stale at h) = dead (sym fresh ∙ ap is_some at)
+  known_right st n fresh (refused r at h g) = shown_or_known (same_shown (shown_in b.world st.family) (Some (text_of b.count n b.texts))) (is_refusal_known b.changed st) (inr (refusal_right st r at h g))
+
+  -- with a card inside
+  one_right : (st : Standing) → is_stale st ≡ false → (o : Option ℕ) → IsShown b st o → is_shown_right b.world (λ n. text_of b.count n b.texts) b.changed st o ≡ true
+  one_right st fresh None t = refl
+  one_right st fresh (Some n) t = known_right st n fresh t.known
+
+  fresh_first : (st : Standing) (rest : List Standing) → is_some (first_stale (st ∷ rest)) ≡ false → (is_stale st ≡ false) × (is_some (first_stale rest) ≡ false)
+  fresh_first st rest h = by_stale (is_stale st) refl h
+    where
+      by_stale : (x : Bool) → is_stale st ≡ x → is_some (option_map (λ (y : Standing). y.family) (if x then Some st else find is_stale rest)) ≡ false → (is_stale st ≡ false) × (is_some (first_stale rest) ≡ false)
+      by_stale true e q = dead (sym q)
+      by_stale false e q = (e, q)
+
+  all_right : (standings : List Standing) → is_some (first_stale standings) ≡ false → AllTrue b standings → list_all IsRight standings ≡ true
+  all_right [] fresh t = refl
+  all_right (st ∷ rest) fresh t =
+      let q = fresh_first st rest fresh in
+      and_from (IsRight st) (list_all IsRight rest) (one_right st q.0 st.shown t.0.shows) (all_right rest q.1 t.1)
+
+  -- without one nothing is shown
+  none_right : (st : Standing) → is_some (card_inside b.world) ≡ false → (o : Option ℕ) → IsShown b st o → is_shown_right b.world (λ n. text_of b.count n b.texts) b.changed st o ≡ true
+  none_right st empty None t = refl
+  none_right st empty (Some n) t = dead (sym empty ∙ t.inside)
+
+  all_empty : (standings : List Standing) → is_some (card_inside b.world) ≡ false → AllTrue b standings → list_all IsRight standings ≡ true
+  all_empty [] empty t = refl
+  all_empty (st ∷ rest) empty t = and_from (IsRight st) (list_all IsRight rest) (none_right st empty st.shown t.0.shows) (all_empty rest empty t.1)
+
+  by_card : (standings : List Standing) → (x : Bool) → is_some (card_inside b.world) ≡ x → (x ≡ true → is_some (first_stale standings) ≡ false) → AllTrue b standings → list_all IsRight standings ≡ true
+  by_card standings true e fresh t = all_right standings (fresh refl) t
+  by_card standings false e fresh t = all_empty standings e t
+
+while_quiet : (b x : Bool) → (b ≡ true → x ≡ true) → elim b [ false ↦ true | true ↦ x ] ≡ true
 while_quiet false x h = refl
-while_quiet true x h = h
+while_quiet true x h = h refl
 
-rest_by : (st : State) (changed : ℕ → ℕ) → BoardTrue st.world st.kept.publications st.texts st.kept → is_rest_right st changed ≡ true
-rest_by st changed t = while_quiet (is_quiet st.kept) (list_all (is_standing_right st.world (λ n. text_of st.kept.publications n st.texts) changed) st.kept.standings) (all_right st.world st.kept.publications st.texts changed st.kept.standings t)
+-- the rule, of what it looks at
+abbrev RestRight : (ℕ → ℕ) → World → Kept → List (List ℕ) → Type 0
+RestRight changed w k texts = elim (is_quiet k) [ false ↦ true | true ↦ list_all (is_standing_right w (λ n. text_of k.publications n texts) changed) k.standings ] ≡ true
 
-state_board : (s : Script) (lines : List Line) → BoardTrue (world_of s lines) (kept_of s lines).publications (texts_of lines) (kept_of s lines) → BoardTrue (state_of s lines).world (state_of s lines).kept.publications (state_of s lines).texts (state_of s lines).kept
-state_board s lines t =
-    subst (λ (x : List (List ℕ)). BoardTrue (state_of s lines).world (state_of s lines).kept.publications x (state_of s lines).kept) (sym (state_texts s lines))
-    (subst (λ (x : Kept). BoardTrue (state_of s lines).world x.publications (texts_of lines) x) (sym (state_kept s lines))
-    (subst (λ (x : World). BoardTrue x (kept_of s lines).publications (texts_of lines) (kept_of s lines)) (sym (state_world s lines)) t))
+rest_known : (s : Script) (lines : List Line) → serves s ≡ true → are_told s lines ≡ true → BoardTrue s lines → RestRight (changed_in s lines) (world_of s lines) (kept_of s lines) (texts_of lines)
+rest_known s lines served told t =
+    while_quiet (is_quiet (kept_of s lines)) (list_all (IsRight (seen s lines)) (kept_of s lines).standings)
+    (λ quiet. by_card (seen s lines) (kept_of s lines).standings (is_some (card_inside (world_of s lines))) refl (λ inside. quiet_none (kept_of s lines) quiet (lives_inside s lines served told inside)) t)
 
--- at the end of each turn, and at any other place, the board shows what the card shows
+state_rest : (s : Script) (lines : List Line) → RestRight (changed_in s lines) (world_of s lines) (kept_of s lines) (texts_of lines) → is_rest_right (state_of s lines) (changed_in s lines) ≡ true
+state_rest s lines t =
+    subst (λ (x : List (List ℕ)). RestRight (changed_in s lines) (state_of s lines).world (state_of s lines).kept x) (sym (state_texts s lines))
+    (subst (λ (x : Kept). RestRight (changed_in s lines) (state_of s lines).world x (texts_of lines)) (sym (state_kept s lines))
+    (subst (λ (x : World). RestRight (changed_in s lines) x (kept_of s lines) (texts_of lines)) (sym (state_world s lines)) t))
+
+-- at the end of each turn, and at any other place, where nothing is open the board shows what the card shows, or a refusal is known
 pub rest_right : ShowsCard → (s : Script) (lines : List Line) → keeps_rules s ≡ true → serves s ≡ true → are_followed s lines ≡ true → are_told s lines ≡ true → ends_turn (due s (kept_of s lines)) ≡ true → is_rest_right (state_of s lines) (changed_in s lines) ≡ true
-rest_right shows s lines rules served followed told ends = rest_by (state_of s lines) (changed_in s lines) (state_board s lines (board_true shows s lines rules served followed told))
+rest_right shows s lines rules served followed told ends = state_rest s lines (rest_known s lines served told (board_true shows s lines rules served followed told))

@@ -25,9 +25,11 @@ use Rattle.performed.specs.Told.{is_told, are_told}
 use Rattle.performed.specs.Placed.{is_turn_allowed, is_placed, are_placed}
 use Rattle.performed.specs.Laws.{LinesAreLegal, LinesArePerformed, MarksMove, RunIsLegal}
 use Rattle.performed.proofs.CalmCards.{channels_right}
+use Rattle.performed.proofs.CalmGiven.{given_of}
 use Rattle.performed.proofs.CalmRest.{responses_right, rest_right}
 use Rattle.performed.proofs.CalmLent.{state_world, state_kept, state_texts}
-use Rattle.performed.proofs.CalmSends.{edits_right, verify_right}
+use Rattle.performed.proofs.CalmEdits.{edits_right}
+use Rattle.performed.proofs.CalmVerify.{verify_right}
 use Rattle.performed.proofs.LegalDue.{does_line}
 use Rattle.performed.proofs.LegalLines.{ends_done}
 use Rattle.performed.proofs.LegalPlaces.{known, turn_right, line_placed, snapshot_right, line_answers, line_fails}
@@ -69,7 +71,7 @@ lines_are_performed s (l ∷ earlier) f t =
 record Others (s : Script) : Type 0 where
   pub edits : (earlier : List Line) (l : Line) → are_followed s (l ∷ earlier) ≡ true → are_told s (l ∷ earlier) ≡ true → has_right_edit s (world_of s earlier) (kept_of s earlier) l ≡ true
   pub verifications : (earlier : List Line) (l : Line) → are_followed s (l ∷ earlier) ≡ true → are_told s (l ∷ earlier) ≡ true → has_right_verify s (kept_of s earlier) l ≡ true
-  pub channels : (lines : List Line) → are_followed s lines ≡ true → are_told s lines ≡ true → are_channels_right (world_of s lines) (kept_of s lines) ≡ true
+  pub channels : (lines : List Line) → are_followed s lines ≡ true → are_told s lines ≡ true → ends_turn (due s (kept_of s lines)) ≡ true → are_channels_right (world_of s lines) (kept_of s lines) ≡ true
   pub rest : (lines : List Line) → are_followed s lines ≡ true → are_told s lines ≡ true → ends_turn (due s (kept_of s lines)) ≡ true → is_rest_right (state_of s lines) (changed_in s lines) ≡ true
 
 -- ---- tests that pass
@@ -86,13 +88,13 @@ module _ (moves : MarksMove) (shows : ShowsCard) (looks : KeptLooksBack) (s : Sc
     end_known : is_turn_allowed m (kept_of s lines).turn ≡ true → is_finished s (kept_of s lines) ≡ true → all_pass (end_tests s m (changed_in s lines) (known s lines)) ≡ true
     end_known allowed finished =
         let done = ends_done s (kept_of s lines) e (world_of s lines) in
-        pass (end_tests s m (changed_in s lines) (known s lines)) refl refl refl (others.channels lines f t) rest_known done.0 refl
+        pass (end_tests s m (changed_in s lines) (known s lines)) refl refl refl (others.channels lines f t e) rest_known done.0 refl
         (turn_right moves s m lines v f e allowed) finished done.2
 
     mark_known : (a : ℕ) → has_right_place s m (known s lines) (line.Turn a) ≡ true → all_pass (mark_tests s m (changed_in s lines) (known s lines) (line.Turn a)) ≡ true
     mark_known a place =
         let done = ends_done s (kept_of s lines) e (world_of s lines) in
-        pass (mark_tests s m (changed_in s lines) (known s lines) (line.Turn a)) refl refl refl (others.channels lines f t) rest_known done.0 refl place refl done.2
+        pass (mark_tests s m (changed_in s lines) (known s lines) (line.Turn a)) refl refl refl (others.channels lines f t e) rest_known done.0 refl place refl done.2
 
   -- a line
   module _ (earlier : List Line) (f : are_followed s earlier ≡ true) (t : are_told s earlier ≡ true) where
@@ -140,7 +142,7 @@ others : ShowsCard → (s : Script) → keeps_rules s ≡ true → serves s ≡ 
 others shows s rules v = record {
   edits = λ earlier l f t. edits_right s earlier l rules v f t;
   verifications = λ earlier l f t. verify_right s earlier l rules v f t;
-  channels = λ lines f t. channels_right s lines rules v f t;
+  channels = λ lines f t e. channels_right s (given_of s rules v) lines f t e;
   rest = λ lines f t e. rest_right shows s lines rules v f t e;
 }
 

@@ -20,7 +20,7 @@ use Rattle.rules.specs.Performed.{ends_turn, is_sent, is_reset, happens_as, is_p
 use Rattle.rules.specs.Rules.{is_turn_of, is_begun_at, same_event, same_answer, is_look, is_answer_among, is_answer_right, is_refusal_right, are_answers_given, is_end_right, is_end_published, is_turn_done, is_command_right, is_reset_right, is_event_right}
 use Rattle.performed.proofs.CalmLent.{sent_of, lost_of}
 use Rattle.performed.proofs.TurnsSays.{IsDone, says_of, turn_done}
-use Rattle.performed.proofs.LegalResets.{is_calm, resets_framework}
+use Rattle.performed.proofs.LegalResets.{CalmTurn, resets_framework}
 
 -- ---- what is due, and the line that does it
 
@@ -44,11 +44,11 @@ module _ (s : Script) (k : Kept) where
   reset_of reset_card e h = says_of s k reset_card e
   reset_of d e h = absurd (true≢false (sym h))
 
-  pub reset_placed : is_calm k.turn ≡ true → (a : ℕ) → is_turn_of a k.turn && is_reset (due s k) ≡ true → is_reset_right k a ≡ true
+  pub reset_placed : CalmTurn s k → (a : ℕ) → is_turn_of a k.turn && is_reset (due s k) ≡ true → is_reset_right k a ≡ true
   reset_placed calm a h =
       let q = and_parts (is_turn_of a k.turn) (is_reset (due s k)) h in
       let r : is_reset_due k ≡ true = reset_of (due s k) refl q.1 in
-      let zero_is : a ≡ 0 = resets_framework k.turn a calm r q.0 in
+      let zero_is : a ≡ 0 = resets_framework s k a calm r q.0 in
       and_from ((a == 0) && is_turn_of 0 k.turn) (is_reset_due k)
       (and_from (a == 0) (is_turn_of 0 k.turn) (eq-eqb a 0 zero_is) (subst (λ (n : ℕ). is_turn_of n k.turn ≡ true) zero_is q.0)) r
 

@@ -167,8 +167,8 @@ module _ (moves : MarksMove) (shows : ShowsCard) (looks : KeptLooksBack) (s : Sc
   line_placed (line.Begin a i) h t p = begin_placed s (kept_of s earlier) a i h
   line_placed (line.Exchange a c r) h t p = exchange_placed s (kept_of s earlier) a c r h
   line_placed (line.Failed a c acted) h t p = failed_placed s (kept_of s earlier) a c acted h
-  line_placed (line.Reset a) h t p = reset_placed s (kept_of s earlier) (turn_calm s earlier rules v) a h
-  line_placed (line.ResetFailed a) h t p = reset_placed s (kept_of s earlier) (turn_calm s earlier rules v) a h
+  line_placed (line.Reset a) h t p = reset_placed s (kept_of s earlier) (turn_calm s earlier rules v followed) a h
+  line_placed (line.ResetFailed a) h t p = reset_placed s (kept_of s earlier) (turn_calm s earlier rules v followed) a h
   line_placed (line.World a e) h t p = event_placed s (kept_of s earlier) (world_of s earlier) a e (does_line s (world_of s earlier) (kept_of s earlier) (line.World a e) h t)
   line_placed (line.Published number f e n text) h t p = published_of s (kept_of s earlier) number f e n text (due s (kept_of s earlier)) refl h
   line_placed (line.EpochEnd number e n) h t p = refl

@@ -1,44 +1,53 @@
--- An actor of a script that is served edits nothing, has no mailbox and holds nothing; it answers at most its operations, and has one left
--- while one has begun.
+-- An actor of a script that is served edits nothing and has no mailbox; it answers at most its operations, and has one left while one has
+-- begun. The channels that are held are logical channels beside the basic one.
 use Rattle.std.proofs.Common.{◌≡◌, ℕ, zero, suc, ◌+◌, ◌≤◌, ◌<◌, ◌==◌, ◌&&◌, Bool, true, false, if◌then◌else◌, List, [], ◌∷◌, length, not, Option, Some, None, is_some, refl, sym, ap, ◌∙◌, subst, arith, true≢false}
 use Rattle.std.specs.Prelude.{nat_lt, nat_le, option_map, slice_get, unwrap_or}
 use Rattle.std.specs.List.{list_all}
 use Rattle.std.proofs.lemmas.Bool.{and_parts, eqb-true, ltb-true, leb-true}
-use Rattle.apdu.specs.Words.{is_between, is_empty}
+use Rattle.apdu.specs.Words.{is_between, is_empty, is_one_of, or_else}
 use Rattle.apdu.specs.Values.{CommandValue}
-use Rattle.apdu.specs.Apdu.{is_update_ins}
+use Rattle.apdu.specs.Apdu.{is_update_ins, is_success, wants_more, select_ins}
 use Rattle.script_reader.specs.declared.types.Script.{Script}
 use Rattle.script_reader.specs.declared.types.Operation.{Operation}
 use Rattle.script_reader.specs.declared.types.Operation.TheVariants as operation
 use Rattle.script_reader.specs.Rules.{keeps_rules, cards_keep_rules, changes_keep_rules, actors_keep_rules, schedule_keeps_rules, faults_keep_rules, budget_keeps_rules}
 use Rattle.script_reader.specs.Operations.{operation_count, is_actor}
 use Rattle.report.specs.declared.answer.Answer.{Answer}
+use Rattle.report.specs.declared.answer.Answer.TheVariants as answer
 use Rattle.report.specs.declared.line.Line.{Line}
 use Rattle.report.specs.declared.line.Line.TheVariants as line
 use Rattle.link.specs.declared.chain.Chain.{Chain}
+use Rattle.link.specs.declared.chain.Final.{Final}
+use Rattle.link.specs.Commands.{is_refused}
+use Rattle.channels.specs.Channels.{is_opening, new_number, opened_number}
+use Rattle.loader.specs.Reading.{has_bad_fcp}
+use Rattle.loader.specs.declared.reading.RefusedReading.{RefusedReading}
 use Rattle.watchers.specs.declared.mailbox.Mailbox.{Mailbox}
 use Rattle.editor.specs.declared.editing.Editing.{Editing}
 use Rattle.editor.specs.Editing.{no_editing, moved_editing, sent_update, with_attempt}
 use Rattle.editor.specs.declared.editing.Attempt.{Attempt}
 use Rattle.rules.specs.declared.holdings.Handle.{Handle}
-use Rattle.rules.specs.declared.holdings.Session.{Session}
 use Rattle.rules.specs.declared.kept.Begun.{Begun}
 use Rattle.rules.specs.declared.kept.Facts.{Facts}
 use Rattle.rules.specs.declared.kept.Job.{Job}
 use Rattle.rules.specs.declared.kept.Kept.{Kept}
-use Rattle.rules.specs.Channels.{handles_after}
-use Rattle.rules.specs.Sessions.{sessions_after}
+use Rattle.rules.specs.declared.kept.Outcome.{Outcome}
+use Rattle.rules.specs.declared.kept.Outcome.TheVariants as outcome
+use Rattle.rules.specs.declared.kept.Turn.{Turn}
+use Rattle.rules.specs.History.{ends_epoch}
+use Rattle.rules.specs.Channels.{held_numbers, ended_handle, ended_handles}
 use Rattle.rules.specs.Watching.{mailbox_after}
 use Rattle.rules.specs.Kept.{actor_count, first_job, job_of, begun_of, begun_operation, operation_at, operation_now, operations_of}
 use Rattle.rules.specs.Work.{has_operations_left}
 use Rattle.rules.specs.Due.{due}
 use Rattle.rules.specs.Rules.{is_turn_of, is_begun_at}
-use Rattle.rules.specs.After.{begun_beside, begun_with, begun_exchanged, begun_failed, mailbox_behind, job_beside, edit_of, editing_sent, own_job, handles_given, handles_behind, sessions_behind, decision_of_begun, decision_at, fresh_begun, facts_of, kept_of}
+use Rattle.rules.specs.After.{begun_beside, begun_with, begun_exchanged, begun_failed, mailbox_behind, job_beside, jobs_beside, edit_of, editing_sent, own_job, handles_given, decision_of_begun, decision_at, fresh_begun, facts_of, refused_of, opened_behind, no_channel_left, refused_outcome, success_or_refusal, opening_outcome, selecting_outcome, outcome_of, turn_answered, turn_exchanged, kept_after, kept_of}
 use Rattle.performed.proofs.TurnsJobs.{Before, before, behind_job, first_jobs, is_own}
 use Rattle.performed.proofs.TurnsSays.{BeginsNow, begins_now}
+use Rattle.performed.proofs.Handles.{given_good, all_mapped, Opens, opens}
 use Rattle.performed.specs.Served.{is_served, serves}
 use Rattle.performed.specs.Followed.{are_followed, is_followed, is_given_or_refused}
-use Rattle.performed.specs.Laws.{has_no_edit, IsPlainJob, ArePlainJobs, IsPlain}
+use Rattle.performed.specs.Laws.{has_no_edit, IsPlainJob, ArePlainJobs, is_channel, IsPlain}
 
 -- ---- the operations of a script that is served
 
@@ -69,6 +78,11 @@ no_edit_of : (op : Option Operation) → ServesAt op → edit_of op ≡ None
 no_edit_of None h = refl
 no_edit_of (Some (operation.Insert card)) h = refl
 no_edit_of (Some (operation.Load f)) h = refl
+no_edit_of (Some (operation.OpenChannel handle aid)) h = refl
+no_edit_of (Some (operation.Raw handle apdu)) h = refl
+no_edit_of (Some (operation.Close handle)) h = refl
+no_edit_of (Some (operation.Verify key pin)) h = refl
+no_edit_of (Some (operation.End key)) h = refl
 no_edit_of (Some operation.Look) h = refl
 no_edit_of (Some op) h = absurd (true≢false (sym h))
 
@@ -77,6 +91,11 @@ no_attempt k a None op h = refl
 no_attempt k a (Some b) None h = refl
 no_attempt k a (Some b) (Some (operation.Insert card)) h = refl
 no_attempt k a (Some b) (Some (operation.Load f)) h = refl
+no_attempt k a (Some b) (Some (operation.OpenChannel handle aid)) h = refl
+no_attempt k a (Some b) (Some (operation.Raw handle apdu)) h = refl
+no_attempt k a (Some b) (Some (operation.Close handle)) h = refl
+no_attempt k a (Some b) (Some (operation.Verify key pin)) h = refl
+no_attempt k a (Some b) (Some (operation.End key)) h = refl
 no_attempt k a (Some b) (Some operation.Look) h = refl
 no_attempt k a (Some b) (Some op) h = absurd (true≢false (sym h))
 
@@ -84,6 +103,11 @@ no_mailbox : (op : Option Operation) (given : Answer) → ServesAt op → elim o
 no_mailbox None given h = refl
 no_mailbox (Some (operation.Insert card)) given h = refl
 no_mailbox (Some (operation.Load f)) given h = refl
+no_mailbox (Some (operation.OpenChannel handle aid)) given h = refl
+no_mailbox (Some (operation.Raw handle apdu)) given h = refl
+no_mailbox (Some (operation.Close handle)) given h = refl
+no_mailbox (Some (operation.Verify key pin)) given h = refl
+no_mailbox (Some (operation.End key)) given h = refl
 no_mailbox (Some operation.Look) given h = refl
 no_mailbox (Some op) given h = absurd (true≢false (sym h))
 
@@ -233,44 +257,144 @@ module _ (s : Script) (k : Kept) (serving : serves s ≡ true) (i : ℕ) where
   job_kept : (l : Line) (x : Job) → is_followed s k l ≡ true → slice_get k.jobs i ≡ Some x → KeepsJob s i x → KeepsJob s i (behind_job s l k i x)
   job_kept l x f here h = either (is_own i l) (own l x) (near l x) (λ same. own_kept l x f here same h) (near_kept l x h)
 
--- ---- nothing is held
+-- ---- the channels that are opened
 
-module _ (s : Script) (serving : serves s ≡ true) (epoch : ℕ) where
-  no_handle_of : (a : ℕ) (op : Option Operation) (given : Answer) → ServesAt op → elim op as (λ o. List Handle) [ None ↦ [] | Some o ↦ handles_after a o given epoch [] ] ≡ []
-  no_handle_of a None given h = refl
-  no_handle_of a (Some (operation.Insert card)) given h = refl
-  no_handle_of a (Some (operation.Load f)) given h = refl
-  no_handle_of a (Some operation.Look) given h = refl
-  no_handle_of a (Some op) given h = absurd (true≢false (sym h))
+abbrev is_number : ℕ → Bool
+is_number n = nat_le 1 n && nat_le n 19
 
-  none_given : (l : Line) → handles_given s l epoch [] ≡ []
-  none_given (line.Answered a op given) = no_handle_of a (operation_at s a op) given (served_at s a op serving)
-  none_given l = refl
+abbrev is_opened : Option ℕ → Bool
+is_opened None = true
+is_opened (Some n) = is_number n
 
-  none_held : (l : Line) (facts : Facts) → handles_behind s l epoch facts [] ≡ []
-  none_held l facts = by_end facts.ends
-    where
-      by_end : (b : Bool) → (if b then [] else handles_given s l epoch []) ≡ []
-      by_end true = refl
-      by_end false = none_given l
+abbrev is_outcome : Option Outcome → Bool
+is_outcome (Some (outcome.Opened n)) = is_number n
+is_outcome o = true
 
-  no_session_of : (a : ℕ) (op : Option Operation) (given : Answer) → ServesAt op → elim op as (λ o. List Session) [ None ↦ [] | Some o ↦ sessions_after a o given epoch [] ] ≡ []
-  no_session_of a None given h = refl
-  no_session_of a (Some (operation.Insert card)) given h = refl
-  no_session_of a (Some (operation.Load f)) given h = refl
-  no_session_of a (Some operation.Look) given h = refl
-  no_session_of a (Some op) given h = absurd (true≢false (sym h))
+-- what a turn opened has such a number
+pub record KeepsTurn (t : Turn) : Type 0 where
+  pub opened : is_opened t.opened ≡ true
+  pub outcome : is_outcome t.outcome ≡ true
 
-  no_session : (l : Line) → sessions_behind s l epoch [] ≡ []
-  no_session (line.Answered a op given) = no_session_of a (operation_at s a op) given (served_at s a op serving)
-  no_session l = refl
+number_between : (n : ℕ) (held : List ℕ) (b : Bool) → is_between 1 19 n && not (is_one_of n held) ≡ b → is_opened (if b then Some n else None) ≡ true
+number_between n held true h = (and_parts (is_between 1 19 n) (not (is_one_of n held)) h).0
+number_between n held false h = refl
+
+number_new : (held body : List ℕ) → is_opened (new_number held body) ≡ true
+number_new held [] = refl
+number_new held (n ∷ []) = number_between n held (is_between 1 19 n && not (is_one_of n held)) refl
+number_new held (n ∷ m ∷ body) = refl
+
+either_opened : (b : Bool) (x y : Option ℕ) → is_opened x ≡ true → is_opened y ≡ true → is_opened (if b then x else y) ≡ true
+either_opened true x y h g = h
+either_opened false x y h g = g
+
+opened_kept : (held : List ℕ) (f : Final) (before : Option ℕ) → is_opened before ≡ true → is_opened (opened_behind held f before) ≡ true
+opened_kept held f before h = either_opened (is_opening f.command) (opened_number held f) before (either_opened (is_success f.response.sw) (new_number held f.response.body) None (number_new held f.response.body) refl) h
+
+either_outcome : (b : Bool) (x y : Option Outcome) → is_outcome x ≡ true → is_outcome y ≡ true → is_outcome (if b then x else y) ≡ true
+either_outcome true x y h g = h
+either_outcome false x y h g = g
+
+else_outcome : (x y : Option Outcome) → is_outcome x ≡ true → is_outcome y ≡ true → is_outcome (or_else x y) ≡ true
+else_outcome None y h g = g
+else_outcome (Some x) y h g = h
+
+module _ (f : Final) where
+  abbrev status : Outcome
+  status = outcome.Status (record { 0 = f.response.sw }) f.event
+
+  abbrev bad_fcp : Option Outcome
+  bad_fcp = if has_bad_fcp f then Some (outcome.BadFcp f.event) else None
+
+  refused_kept : is_outcome (refused_outcome f) ≡ true
+  refused_kept =
+      either_outcome (wants_more f.response.sw) (Some (outcome.Loop f.event)) (if is_refused f then Some status else bad_fcp) refl
+      (either_outcome (is_refused f) (Some status) bad_fcp refl (either_outcome (has_bad_fcp f) (Some (outcome.BadFcp f.event)) None refl refl))
+
+  success_kept : (good : Outcome) → is_outcome (Some good) ≡ true → is_outcome (success_or_refusal good f) ≡ true
+  success_kept good h = either_outcome (is_success f.response.sw) (Some good) (refused_outcome f) h refused_kept
+
+  opening_kept : (opened : Option ℕ) → is_outcome (opening_outcome opened f) ≡ true
+  opening_kept (Some n) = refl
+  opening_kept None =
+      either_outcome (f.response.sw == no_channel_left) (Some (outcome.Exhausted f.event)) (if is_success f.response.sw then Some status else refused_outcome f) refl
+      (either_outcome (is_success f.response.sw) (Some status) (refused_outcome f) refl refused_kept)
+
+  selecting_kept : (opened : Option ℕ) → is_opened opened ≡ true → is_outcome (selecting_outcome opened f) ≡ true
+  selecting_kept None h = refused_kept
+  selecting_kept (Some n) h = success_kept (outcome.Opened n) h
+
+  abbrev selects : Option ℕ → Option Outcome
+  selects opened = if f.command.ins == select_ins then selecting_outcome opened f else None
+
+  outcome_kept : (op : Option Operation) (opened : Option ℕ) → is_opened opened ≡ true → is_outcome (outcome_of op opened f) ≡ true
+  outcome_kept (Some (operation.OpenChannel handle aid)) opened h =
+      either_outcome (is_opening f.command) (opening_outcome opened f) (selects opened) (opening_kept opened)
+      (either_outcome (f.command.ins == select_ins) (selecting_outcome opened f) None (selecting_kept opened h) refl)
+  outcome_kept (Some (operation.Raw handle apdu)) opened h = either_outcome (wants_more f.response.sw) (Some (outcome.Loop f.event)) (Some (outcome.Raw f.response)) refl refl
+  outcome_kept (Some (operation.Close handle)) opened h = success_kept outcome.Closed refl
+  outcome_kept (Some (operation.Verify key pin)) opened h = either_outcome (is_success f.response.sw) (Some outcome.Verified) (Some status) refl refl
+  outcome_kept (Some operation.Poll) opened h = success_kept outcome.Polled refl
+  outcome_kept op opened h = refused_kept
+
+-- a command of the turn, answered or not yet
+module _ (op : Option Operation) (job : Job) (held : List ℕ) (facts : Facts) (refused : Option RefusedReading) (t : Turn) (h : KeepsTurn t) where
+  exchanged_by : (o : Option Final) → KeepsTurn (elim o [ None ↦ record t { bare = false } | Some f ↦ turn_answered op job (opened_behind held f t.opened) facts.touch.refresh refused f t ])
+  exchanged_by None = record { opened = h.opened; outcome = h.outcome }
+  exchanged_by (Some f) =
+      let opened = opened_kept held f t.opened h.opened in
+      record {
+        opened = opened;
+        outcome = else_outcome t.outcome (outcome_of op (opened_behind held f t.opened) f) h.outcome (outcome_kept f op (opened_behind held f t.opened) opened);
+      }
+
+  exchanged_kept : KeepsTurn (turn_exchanged op job held facts refused t)
+  exchanged_kept = exchanged_by facts.answered
+
+module _ (s : Script) (k : Kept) (h : KeepsTurn k.turn) where
+  turn_kept : (l : Line) → KeepsTurn (kept_after s l k).turn
+  turn_kept (line.Turn a) = record { opened = refl; outcome = refl }
+  turn_kept (line.Exchange a c r) =
+      let l : Line = line.Exchange a c r in
+      let facts : Facts = facts_of s l k in
+      exchanged_kept (operation_now s a k.jobs) (job_of a (kept_after s l k).jobs) (held_numbers k.history k.handles) facts
+      (refused_of k.selected (jobs_beside l k.history.epoch facts k.selected k.jobs) facts.answered) k.turn h
+  turn_kept (line.Begin a i) = record { opened = h.opened; outcome = h.outcome }
+  turn_kept (line.Failed a c d) = record { opened = h.opened; outcome = h.outcome }
+  turn_kept (line.Reset a) = record { opened = h.opened; outcome = h.outcome }
+  turn_kept (line.ResetFailed a) = record { opened = h.opened; outcome = h.outcome }
+  turn_kept (line.World a e) = record { opened = h.opened; outcome = h.outcome }
+  turn_kept (line.Published n f e v text) = record { opened = h.opened; outcome = h.outcome }
+  turn_kept (line.EpochEnd n e v) = record { opened = h.opened; outcome = h.outcome }
+  turn_kept (line.Refused f n) = record { opened = h.opened; outcome = h.outcome }
+  turn_kept (line.Answered a i given) = record { opened = h.opened; outcome = h.outcome }
+
+  -- ---- the channels that are held
+
+  ended_channel : (epoch event : ℕ) (b : Bool) (x : Handle) → is_channel x ≡ true → is_channel (if b then record x { ended = Some event } else x) ≡ true
+  ended_channel epoch event true x e = e
+  ended_channel epoch event false x e = e
+
+  given_channel : (l : Line) (a i handle number : ℕ) (aid : List ℕ) → is_followed s k l ≡ true → l ≡ line.Answered a i (answer.Opened number) → operation_at s a i ≡ Some (operation.OpenChannel handle aid) → is_number number ≡ true
+  given_channel l a i handle number aid f e op =
+      let o : Opens k a number = opens s k a i number handle aid op (subst (λ (x : Line). is_followed s k x ≡ true) e f) in
+      subst (λ (x : Option Outcome). is_outcome x ≡ true) o.outcome h.outcome
+
+  channels_by : (l : Line) (b : Bool) → is_followed s k l ≡ true → list_all is_channel k.handles ≡ true → list_all is_channel (if b then ended_handles k.history.epoch (facts_of s l k).event k.handles else handles_given s l k.history.epoch k.handles) ≡ true
+  channels_by l true f held =
+      let event : ℕ = k.history.events + 1 in
+      all_mapped is_channel is_channel (ended_handle k.history.epoch event) (λ x e. ended_channel k.history.epoch event (x.epoch == k.history.epoch) x e) k.handles held
+  channels_by l false f held = given_good is_channel s l k.history.epoch k.handles held (λ a i handle number aid e op. given_channel l a i handle number aid f e op)
+
+  channels_kept : (l : Line) → is_followed s k l ≡ true → list_all is_channel k.handles ≡ true → list_all is_channel (kept_after s l k).handles ≡ true
+  channels_kept l f held = channels_by l (ends_epoch l k.history) f held
 
 -- ---- all lines
 
 pub record Keeps (s : Script) (k : Kept) : Type 0 where
   pub jobs : (i : ℕ) (x : Job) → slice_get k.jobs i ≡ Some x → KeepsJob s i x
-  pub handles : k.handles ≡ []
-  pub sessions : k.sessions ≡ []
+  pub handles : list_all is_channel k.handles ≡ true
+  pub turn : KeepsTurn k.turn
 
 first_keeps : (s : Script) (i : ℕ) → KeepsJob s i first_job
 first_keeps s i = record { answered = omega arith; left = λ e. absurd (true≢false (sym e)); editing = tt; mailbox = refl }
@@ -279,7 +403,7 @@ pub keeps : (s : Script) (lines : List Line) → serves s ≡ true → are_follo
 keeps s [] serving followed = record {
   jobs = λ i x h. subst (λ (y : Job). KeepsJob s i y) (sym (first_jobs (actor_count s + 1) i x h)) (first_keeps s i);
   handles = refl;
-  sessions = refl;
+  turn = record { opened = refl; outcome = refl };
 }
 keeps s (l ∷ earlier) serving followed =
     let k : Kept = kept_of s earlier in
@@ -289,8 +413,8 @@ keeps s (l ∷ earlier) serving followed =
       jobs = λ i y here.
           let b : Before s l k i y = before s l k i y here in
           subst (λ (z : Job). KeepsJob s i z) (sym b.became) (job_kept s k serving i l b.job p.1 b.here (h.jobs i b.job b.here));
-      handles = ap (λ (hs : List Handle). handles_behind s l k.history.epoch (facts_of s l k) hs) h.handles ∙ none_held s serving k.history.epoch l (facts_of s l k);
-      sessions = ap (λ (ss : List Session). sessions_behind s l k.history.epoch ss) h.sessions ∙ no_session s serving k.history.epoch l;
+      handles = channels_kept s k h.turn l p.1 h.handles;
+      turn = turn_kept s k h.turn l;
     }
 
 -- ---- at most 1000 operations
@@ -331,5 +455,4 @@ stays_plain s lines rules serving followed =
     record {
       jobs = plain_jobs (kept_of s lines).jobs (λ i x here. plain_job s i x rules (h.jobs i x here));
       handles = h.handles;
-      sessions = h.sessions;
     }

@@ -9,10 +9,13 @@ use Rattle.script_reader.specs.declared.types.Script.{Script}
 use Rattle.script_reader.specs.declared.types.Operation.{Operation}
 use Rattle.script_reader.specs.declared.types.Operation.TheVariants as operation
 use Rattle.report.specs.declared.answer.Answer.{Answer}
+use Rattle.report.specs.declared.answer.Answer.TheVariants as answer
 use Rattle.families.specs.Families.{family_paths}
 use Rattle.epoch_cache.specs.declared.cached.CachedFile.{CachedFile}
 use Rattle.epoch_cache.specs.Cache.{is_current, all_current, first_missing}
 use Rattle.link.specs.declared.chain.Chain.{Chain}
+use Rattle.channels.specs.Channels.{on_channel, open_command, close_command}
+use Rattle.rules.specs.declared.holdings.Handle.{Handle}
 use Rattle.rules.specs.declared.kept.Begun.{Begun}
 use Rattle.rules.specs.declared.kept.Kept.{Kept}
 use Rattle.rules.specs.declared.kept.Stage.{Stage}
@@ -21,12 +24,16 @@ use Rattle.rules.specs.declared.kept.Work.{Work}
 use Rattle.rules.specs.declared.kept.Work.TheVariants.{Rests as rests, Sends as sends, Reads as reads, Resets as resets, Happens as happens}
 use Rattle.rules.specs.History.{lives_in, is_living}
 use Rattle.rules.specs.Kept.{job_of, begun_of, operation_now}
-use Rattle.rules.specs.Work.{reads_first, work_of_operation, family_published}
+use Rattle.rules.specs.Channels.{is_handle_of, handle_of, is_living_handle, is_raw_ins}
+use Rattle.rules.specs.Sessions.{has_session, verify_command}
+use Rattle.rules.specs.Work.{reads_first, living_handle, sends_raw, sends_close, work_of_operation, family_published}
 use Rattle.apdu.specs.Words.{or_else}
-use Rattle.rules.specs.Due.{with_card, with_ended, is_lost, loaded, outcome_answer, first_command, first_of_turn, command_by_stage, command_by_chain, reset_by_stage, event_by_stage, event_of, is_resetting, published_by, answer_of_begun, answer_of_actor, due_of_actor, due_by_answer, due_by_publication, due_by_refusal, due_by_event, due_by_reset, due_by_command, due_by_end, due, due_command, is_reset_due, tried_event, due_publication, due_answer}
+use Rattle.rules.specs.Due.{with_card, with_ended, is_lost, loaded, outcome_answer, on_handle, raw_on_handle, first_command, first_of_turn, command_by_stage, command_by_chain, reset_by_stage, event_by_stage, event_of, is_resetting, published_by, answer_of_begun, answer_of_actor, due_of_actor, due_by_answer, due_by_publication, due_by_refusal, due_by_event, due_by_reset, due_by_command, due_by_end, due, due_command, is_reset_due, tried_event, due_publication, due_answer}
 use Rattle.rules.specs.Performed.{ends_turn}
 use Rattle.performed.specs.Served.{is_served}
 use Rattle.performed.proofs.ProgressSound.{lives_or_ended}
+use Rattle.performed.proofs.Handles.{all_found}
+use Rattle.performed.proofs.ProgressHandles.{is_sound_handle, are_sound_handles}
 
 -- ---- the walk: what is due first is a line
 
@@ -175,6 +182,8 @@ pub record RunsAs (s : Script) (k before : Kept) (actor : ℕ) (b now : Begun) (
   pub files : k.files ≡ before.files
   pub epoch : now.epoch ≡ b.epoch
   pub lives : lives_or_ended before.history now.epoch now.ended ≡ true
+  pub handles : k.handles ≡ before.handles
+  pub held : are_sound_handles before.history before.handles ≡ true
 
 or_none : (a : Bool) → (a || false) ≡ true → a ≡ true
 or_none true h = refl
@@ -209,8 +218,86 @@ module _ (s : Script) (k before : Kept) (actor : ℕ) (b now : Begun) where
   load_of f None r epoch = goes_by_answer s k (ap is_some (answers (operation.Load f) r) ∙ ap (λ (o : Option ℕ). is_some (with_card o now other)) epoch)
   load_of f (Some e) r epoch = load_ended f e now.ended r epoch refl
 
+  ended_answers : (ended : Option ℕ) (e : ℕ) (unsure : Bool) (given : Option Answer) → is_some ended ≡ true → is_some (with_ended e ended unsure given) ≡ true
+  ended_answers None e unsure given h = absurd (true≢false (sym h))
+  ended_answers (Some n) e unsure given h = refl
+
+  -- a command that its operation sends in its epoch, and what comes of it
+  record SendsInEpoch (c : CommandValue) (op : Operation) : Type 0 where
+    work : k.turn.work ≡ (if lives_in before.history b.epoch then sends c else rests)
+    answer : answer_of_begun k actor (Some now) (Some op) ≡ with_card now.epoch now (outcome_answer k.turn)
+
+  module _ (c : CommandValue) (op : Operation) (r : RunsAs s k before actor b now op) (w : SendsInEpoch c op) where
+    sent_by : (e : ℕ) (lives : Bool) → now.epoch ≡ Some e → is_living before.history e ≡ lives → (lives || is_some now.ended) ≡ true → ends_turn (due s k) ≡ false
+    sent_by e true epoch living p =
+        sends_goes s k actor r.turn c
+        (w.work ∙ ap (λ (x : Bool). if x then sends c else rests) (ap (lives_in before.history) (sym r.epoch ∙ epoch) ∙ living))
+    sent_by e false epoch living p =
+        goes_by_answer s k
+        (ap is_some (answers op r ∙ w.answer) ∙ ap (λ (o : Option ℕ). is_some (with_card o now (outcome_answer k.turn))) epoch
+        ∙ ended_answers now.ended e (is_lost now.ended now.editing.lost) (outcome_answer k.turn) p)
+
+    sent_of : (o : Option ℕ) → now.epoch ≡ o → ends_turn (due s k) ≡ false
+    sent_of None epoch = goes_by_answer s k (ap is_some (answers op r ∙ w.answer) ∙ ap (λ (o : Option ℕ). is_some (with_card o now (outcome_answer k.turn))) epoch)
+    sent_of (Some e) epoch = sent_by e (is_living before.history e) epoch refl (sym (ap (λ (o : Option ℕ). lives_or_ended before.history o now.ended) epoch) ∙ r.lives)
+
+  -- a command on a handle: not held, or refused, or of an epoch that lives or has an end
+  abbrev held_as : ℕ → Option Handle → Type 0
+  held_as handle o = handle_of actor handle before.handles ≡ o
+
+  abbrev raw_given : CommandValue → Handle → Bool → Option Answer
+  raw_given apdu h allowed = if allowed then with_ended h.epoch h.ended false (outcome_answer k.turn) else Some (answer.RawRefused apdu.ins)
+
+  module _ (handle : ℕ) (apdu : CommandValue) (r : RunsAs s k before actor b now (operation.Raw handle apdu)) where
+    raw_work : (o : Option Handle) → held_as handle o → k.turn.work ≡ sends_raw apdu (living_handle before o)
+    raw_work o e = r.work ∙ ap (λ (x : Option Handle). sends_raw apdu (living_handle before x)) e
+
+    raw_answers : (o : Option Handle) → held_as handle o → due_answer s k ≡ raw_on_handle handle o apdu.ins (outcome_answer k.turn)
+    raw_answers o e = answers (operation.Raw handle apdu) r ∙ ap (λ (x : Option Handle). raw_on_handle handle x apdu.ins (outcome_answer k.turn)) (ap (handle_of actor handle) r.handles ∙ e)
+
+    raw_by : (h : Handle) (lives : Bool) → held_as handle (Some h) → is_raw_ins apdu.ins ≡ true → is_living_handle before.history h ≡ lives → (lives || is_some h.ended) ≡ true → ends_turn (due s k) ≡ false
+    raw_by h true e allowed living p =
+        sends_goes s k actor r.turn (on_channel h.number apdu)
+        (raw_work (Some h) e ∙ ap (λ (x : Bool). sends_raw apdu (if x then Some h else None)) living ∙ ap (λ (x : Bool). if x then sends (on_channel h.number apdu) else rests) allowed)
+    raw_by h false e allowed living p =
+        goes_by_answer s k
+        (ap is_some (raw_answers (Some h) e) ∙ ap (λ (x : Bool). is_some (raw_given apdu h x)) allowed
+        ∙ ended_answers h.ended h.epoch false (outcome_answer k.turn) p)
+
+    raw_allowed : (h : Handle) (allowed : Bool) → held_as handle (Some h) → is_raw_ins apdu.ins ≡ allowed → ends_turn (due s k) ≡ false
+    raw_allowed h true e allowed = raw_by h (is_living_handle before.history h) e allowed refl (all_found (is_sound_handle before.history) (is_handle_of actor handle) before.handles h r.held e)
+    raw_allowed h false e allowed = goes_by_answer s k (ap is_some (raw_answers (Some h) e) ∙ ap (λ (x : Bool). is_some (raw_given apdu h x)) allowed)
+
+    raw_of : (o : Option Handle) → held_as handle o → ends_turn (due s k) ≡ false
+    raw_of None e = goes_by_answer s k (ap is_some (raw_answers None e))
+    raw_of (Some h) e = raw_allowed h (is_raw_ins apdu.ins) e refl
+
+  module _ (handle : ℕ) (r : RunsAs s k before actor b now (operation.Close handle)) where
+    close_work : (o : Option Handle) → held_as handle o → k.turn.work ≡ sends_close (living_handle before o)
+    close_work o e = r.work ∙ ap (λ (x : Option Handle). sends_close (living_handle before x)) e
+
+    close_answers : (o : Option Handle) → held_as handle o → due_answer s k ≡ on_handle handle o (outcome_answer k.turn)
+    close_answers o e = answers (operation.Close handle) r ∙ ap (λ (x : Option Handle). on_handle handle x (outcome_answer k.turn)) (ap (handle_of actor handle) r.handles ∙ e)
+
+    close_by : (h : Handle) (lives : Bool) → held_as handle (Some h) → is_living_handle before.history h ≡ lives → (lives || is_some h.ended) ≡ true → ends_turn (due s k) ≡ false
+    close_by h true e living p = sends_goes s k actor r.turn (close_command h.number) (close_work (Some h) e ∙ ap (λ (x : Bool). sends_close (if x then Some h else None)) living)
+    close_by h false e living p = goes_by_answer s k (ap is_some (close_answers (Some h) e) ∙ ended_answers h.ended h.epoch false (outcome_answer k.turn) p)
+
+    close_of : (o : Option Handle) → held_as handle o → ends_turn (due s k) ≡ false
+    close_of None e = goes_by_answer s k (ap is_some (close_answers None e))
+    close_of (Some h) e = close_by h (is_living_handle before.history h) e refl (all_found (is_sound_handle before.history) (is_handle_of actor handle) before.handles h r.held e)
+
+  either_given : (held : Bool) (x y : Answer) → is_some (if held then Some x else Some y) ≡ true
+  either_given true x y = refl
+  either_given false x y = refl
+
   pub operation_goes : (op : Operation) → is_served op ≡ true → RunsAs s k before actor b now op → ends_turn (due s k) ≡ false
   operation_goes (operation.Insert card) served r = happens_goes s k actor r.turn (world_event.Insert card) r.work
   operation_goes (operation.Load f) served r = load_of f now.epoch r refl
+  operation_goes (operation.OpenChannel handle aid) served r = sent_of open_command (operation.OpenChannel handle aid) r (record { work = r.work; answer = refl }) now.epoch refl
+  operation_goes (operation.Raw handle apdu) served r = raw_of handle apdu r (handle_of actor handle before.handles) refl
+  operation_goes (operation.Close handle) served r = close_of handle r (handle_of actor handle before.handles) refl
+  operation_goes (operation.Verify key pin) served r = sent_of (verify_command key pin) (operation.Verify key pin) r (record { work = r.work; answer = refl }) now.epoch refl
+  operation_goes (operation.End key) served r = goes_by_answer s k (ap is_some (answers (operation.End key) r) ∙ either_given (has_session actor key k.sessions) answer.Ended (answer.NotHeldKey key))
   operation_goes operation.Look served r = goes_by_answer s k (ap is_some (answers operation.Look r))
   operation_goes op served r = absurd (true≢false (sym served))

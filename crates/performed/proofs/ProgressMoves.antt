@@ -39,6 +39,7 @@ use Rattle.performed.proofs.ProgressMarks.{Seen, seen_of, SameWork, now_same, en
 use Rattle.performed.proofs.ProgressServed.{served_at}
 use Rattle.performed.proofs.ProgressBegins.{Starts, starts, nothing_below, some_below, operation_there}
 use Rattle.performed.proofs.ProgressSound.{lives_or_ended, IsSoundOption, IsSoundJob, fresh_lives, sound}
+use Rattle.performed.proofs.ProgressHandles.{are_sound_handles, sound_handles}
 use Rattle.performed.proofs.ProgressGoes.{IsFreshTurn, RunsAs, goes_by_actor, sends_goes, resets_goes, load_goes, operation_goes}
 
 -- ---- the framework
@@ -173,47 +174,50 @@ module _ (s : Script) (k : Kept) where
       (none_seen (begun_of (suc a) (marked (suc a)).jobs) ((w.jobs (suc a)).begun ∙ ap (option_map seen_of) none)))
 
   -- one under way goes on
-  runs : (a : ℕ) (b now : Begun) (op : Operation) → begun_of (suc a) k.jobs ≡ Some b → begun_of (suc a) (marked (suc a)).jobs ≡ Some now → seen_of now ≡ seen_of b → operation_at s (suc a) b.index ≡ Some op → lives_or_ended k.history b.epoch b.ended ≡ true → RunsAs s (marked (suc a)) k (suc a) b now op
-  runs a b now op eb en same eo lives =
-      let w : SameWork (marked (suc a)) k = same_work s k (suc a) in
-      let of : operation_now s (suc a) k.jobs ≡ Some op = ap (begun_operation s (suc a)) eb ∙ eo in
-      record {
-        turn = marked_fresh (suc a);
-        begun = en;
-        operation = now_same s (marked (suc a)) k w (suc a) ∙ of;
-        work = ap (λ (o : Option Begun). (decision_of_begun k (suc a) o (operation_now s (suc a) k.jobs)).work) eb ∙ ap (λ (o : Option Operation). (decision_of_begun k (suc a) (Some b) o).work) of;
-        family = ap (λ (o : Option Begun). family_of_begun k o (operation_now s (suc a) k.jobs)) eb ∙ ap (λ (o : Option Operation). family_of_begun k (Some b) o) of;
-        files = all_kept k.files;
-        epoch = ap (λ (v : Seen). v.1.0) same;
-        lives = ap (λ (v : Seen). lives_or_ended k.history v.1.0 v.1.1) same ∙ lives;
-      }
+  module _ (held : are_sound_handles k.history k.handles ≡ true) where
+    runs : (a : ℕ) (b now : Begun) (op : Operation) → begun_of (suc a) k.jobs ≡ Some b → begun_of (suc a) (marked (suc a)).jobs ≡ Some now → seen_of now ≡ seen_of b → operation_at s (suc a) b.index ≡ Some op → lives_or_ended k.history b.epoch b.ended ≡ true → RunsAs s (marked (suc a)) k (suc a) b now op
+    runs a b now op eb en same eo lives =
+        let w : SameWork (marked (suc a)) k = same_work s k (suc a) in
+        let of : operation_now s (suc a) k.jobs ≡ Some op = ap (begun_operation s (suc a)) eb ∙ eo in
+        record {
+          turn = marked_fresh (suc a);
+          begun = en;
+          operation = now_same s (marked (suc a)) k w (suc a) ∙ of;
+          work = ap (λ (o : Option Begun). (decision_of_begun k (suc a) o (operation_now s (suc a) k.jobs)).work) eb ∙ ap (λ (o : Option Operation). (decision_of_begun k (suc a) (Some b) o).work) of;
+          family = ap (λ (o : Option Begun). family_of_begun k o (operation_now s (suc a) k.jobs)) eb ∙ ap (λ (o : Option Operation). family_of_begun k (Some b) o) of;
+          files = all_kept k.files;
+          epoch = ap (λ (v : Seen). v.1.0) same;
+          lives = ap (λ (v : Seen). lives_or_ended k.history v.1.0 v.1.1) same ∙ lives;
+          handles = refl;
+          held = held;
+        }
 
-  one_seen : (x y : Begun) → Some (seen_of x) ≡ Some (seen_of y) → seen_of x ≡ seen_of y
-  one_seen x y h = cc
+    one_seen : (x y : Begun) → Some (seen_of x) ≡ Some (seen_of y) → seen_of x ≡ seen_of y
+    one_seen x y h = cc
 
-  now_goes : (a : ℕ) (b : Begun) (op : Operation) (o : Option Begun) → begun_of (suc a) k.jobs ≡ Some b → begun_of (suc a) (marked (suc a)).jobs ≡ o → option_map seen_of o ≡ Some (seen_of b) → operation_at s (suc a) b.index ≡ Some op → is_served op ≡ true → lives_or_ended k.history b.epoch b.ended ≡ true → ends_turn (due s (marked (suc a))) ≡ false
-  now_goes a b op None eb en same eo served lives = absurd (cc)
-  now_goes a b op (Some now) eb en same eo served lives = operation_goes s (marked (suc a)) k (suc a) b now op served (runs a b now op eb en (one_seen now b same) eo lives)
+    now_goes : (a : ℕ) (b : Begun) (op : Operation) (o : Option Begun) → begun_of (suc a) k.jobs ≡ Some b → begun_of (suc a) (marked (suc a)).jobs ≡ o → option_map seen_of o ≡ Some (seen_of b) → operation_at s (suc a) b.index ≡ Some op → is_served op ≡ true → lives_or_ended k.history b.epoch b.ended ≡ true → ends_turn (due s (marked (suc a))) ≡ false
+    now_goes a b op None eb en same eo served lives = absurd (cc)
+    now_goes a b op (Some now) eb en same eo served lives = operation_goes s (marked (suc a)) k (suc a) b now op served (runs a b now op eb en (one_seen now b same) eo lives)
 
-  begun_goes : (a : ℕ) (b : Begun) (o : Option Operation) → begun_of (suc a) k.jobs ≡ Some b → operation_at s (suc a) b.index ≡ o → is_some o ≡ true → serves s ≡ true → lives_or_ended k.history b.epoch b.ended ≡ true → ends_turn (due s (marked (suc a))) ≡ false
-  begun_goes a b None eb eo there served lives = absurd (true≢false (sym there))
-  begun_goes a b (Some op) eb eo there served lives =
-      now_goes a b op (begun_of (suc a) (marked (suc a)).jobs) eb refl (((same_work s k (suc a)).jobs (suc a)).begun ∙ ap (option_map seen_of) eb) eo (served_at s (suc a) b.index op served eo) lives
+    begun_goes : (a : ℕ) (b : Begun) (o : Option Operation) → begun_of (suc a) k.jobs ≡ Some b → operation_at s (suc a) b.index ≡ o → is_some o ≡ true → serves s ≡ true → lives_or_ended k.history b.epoch b.ended ≡ true → ends_turn (due s (marked (suc a))) ≡ false
+    begun_goes a b None eb eo there served lives = absurd (true≢false (sym there))
+    begun_goes a b (Some op) eb eo there served lives =
+        now_goes a b op (begun_of (suc a) (marked (suc a)).jobs) eb refl (((same_work s k (suc a)).jobs (suc a)).begun ∙ ap (option_map seen_of) eb) eo (served_at s (suc a) b.index op served eo) lives
 
-  by_begun : (a : ℕ) (o : Option Begun) → begun_of (suc a) k.jobs ≡ o → IsSoundOption s k.history (suc a) o → serves s ≡ true → has_ended s k (suc a) ≡ false → waits_on s k (suc a) ≡ None → ends_turn (due s (marked (suc a))) ≡ false
-  by_begun a None e p served ended waits = free_goes a e ended waits
-  by_begun a (Some b) e p served ended waits = begun_goes a b (operation_at s (suc a) b.index) e refl p.there served p.lives
+    by_begun : (a : ℕ) (o : Option Begun) → begun_of (suc a) k.jobs ≡ o → IsSoundOption s k.history (suc a) o → serves s ≡ true → has_ended s k (suc a) ≡ false → waits_on s k (suc a) ≡ None → ends_turn (due s (marked (suc a))) ≡ false
+    by_begun a None e p served ended waits = free_goes a e ended waits
+    by_begun a (Some b) e p served ended waits = begun_goes a b (operation_at s (suc a) b.index) e refl p.there served p.lives
 
-  actor_moves : (a : ℕ) → IsSoundJob s k.history (suc a) (job_of (suc a) k.jobs) → serves s ≡ true → is_idle s k (suc a) ≡ false → ends_turn (due s (marked (suc a))) ≡ false
-  actor_moves a p served idle =
-      let q = or_parts (has_ended s k (suc a)) (is_some (waits_on s k (suc a))) idle in
-      by_begun a (begun_of (suc a) k.jobs) refl p served q.0 (no_value (waits_on s k (suc a)) q.1)
+    actor_moves : (a : ℕ) → IsSoundJob s k.history (suc a) (job_of (suc a) k.jobs) → serves s ≡ true → is_idle s k (suc a) ≡ false → ends_turn (due s (marked (suc a))) ≡ false
+    actor_moves a p served idle =
+        let q = or_parts (has_ended s k (suc a)) (is_some (waits_on s k (suc a))) idle in
+        by_begun a (begun_of (suc a) k.jobs) refl p served q.0 (no_value (waits_on s k (suc a)) q.1)
 
 pub marks_move : MarksMove
 marks_move s lines zero served followed idle = framework_moves s (kept_of s lines) idle
 marks_move s lines (suc a) served followed idle =
     let q = and_parts (are_followed s lines) (begins_turn s (kept_of s lines) (due s (kept_of s lines)) (suc a)) followed in
-    actor_moves s (kept_of s lines) a (sound s lines q.0 (suc a)) served idle
+    actor_moves s (kept_of s lines) (sound_handles s lines q.0) a (sound s lines q.0 (suc a)) served idle
 
 -- ---- behind the line that begins an operation
 
@@ -285,7 +289,7 @@ has_place : (s : Script) (k : Kept) (a : ℕ) → has_operations_left s k a ≡ 
 has_place s k zero h = absurd (nothing_below (job_of zero k.jobs).answered h)
 has_place s k (suc a) h = below_one_more a (actor_count s) (actor_there s.actors a (job_of (suc a) k.jobs).answered h)
 
-module _ (s : Script) (k : Kept) (a i : ℕ) (t : Starts s k a i) (undone : IsUndone k) where
+module _ (s : Script) (k : Kept) (a i : ℕ) (t : Starts s k a i) (undone : IsUndone k) (held : are_sound_handles k.history k.handles ≡ true) where
   abbrev begun_kept : Kept
   begun_kept = kept_after s (line.Begin a i) k
 
@@ -315,6 +319,8 @@ module _ (s : Script) (k : Kept) (a i : ℕ) (t : Starts s k a i) (undone : IsUn
     files = all_kept k.files;
     epoch = refl;
     lives = fresh_lives i k.history;
+    handles = refl;
+    held = held;
   }
 
   begun_moves : (o : Option Operation) → operation_at s a i ≡ o → is_some o ≡ true → serves s ≡ true → length k.jobs ≡ actor_count s + 1 → ends_turn (due s begun_kept) ≡ false
@@ -328,4 +334,4 @@ pub begins_move : BeginsMove
 begins_move s lines a i served followed =
     let q = and_parts (are_followed s lines) (is_turn_of a (kept_of s lines).turn && begins_as i (due s (kept_of s lines))) followed in
     let t : Starts s (kept_of s lines) a i = starts s (kept_of s lines) i a q.1 in
-    begun_moves s (kept_of s lines) a i t (bare_mark s lines t.bare) (operation_at s a i) refl (operation_there s (kept_of s lines) a i t) served (job_count s lines)
+    begun_moves s (kept_of s lines) a i t (bare_mark s lines t.bare) (sound_handles s lines q.0) (operation_at s a i) refl (operation_there s (kept_of s lines) a i t) served (job_count s lines)

@@ -73,7 +73,7 @@ lives_by l h e None p =
     let q = and_parts h.living (h.epoch == e) (or_false (is_living h e) p) in
     goes_on (begins_epoch l) (stops_epoch l) h.living h.epoch e (h.events + 1) q.0 q.1
 
-lives_step : (l : Line) (h : Past) (o ended : Option ℕ) → lives_or_ended h o ended ≡ true → lives_or_ended (history_after l h) o (ended_by (ends_epoch l h) h.epoch (h.events + 1) o ended) ≡ true
+pub lives_step : (l : Line) (h : Past) (o ended : Option ℕ) → lives_or_ended h o ended ≡ true → lives_or_ended (history_after l h) o (ended_by (ends_epoch l h) h.epoch (h.events + 1) o ended) ≡ true
 lives_step l h None ended p = refl
 lives_step l h (Some e) ended p = lives_by l h e ended p
 

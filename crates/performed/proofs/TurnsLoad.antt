@@ -41,13 +41,20 @@ pub record LoadsIt (op : Option Operation) : Type 0 where
   pub family : ℕ
   pub is : op ≡ Some (operation.Load family)
 
+none_published : (lives : Bool) (f : ℕ) → (if lives then None else None) ≡ Some f → ⊥
+none_published true f e = absurd (cc)
+none_published false f e = absurd (cc)
+
 load_of : (b : Begun) (lives : Bool) (op : Option Operation) (f : ℕ) → ServesAt op → elim op as (λ o. Option ℕ) [ None ↦ None | Some o ↦ if lives then family_of_operation b o else None ] ≡ Some f → LoadsIt op
 load_of b lives None f h e = absurd (cc)
 load_of b lives (Some (operation.Load g)) f h e = record { family = g; is = refl }
-load_of b true (Some (operation.Insert card)) f h e = absurd (cc)
-load_of b false (Some (operation.Insert card)) f h e = absurd (cc)
-load_of b true (Some operation.Look) f h e = absurd (cc)
-load_of b false (Some operation.Look) f h e = absurd (cc)
+load_of b lives (Some (operation.Insert card)) f h e = absurd (none_published lives f e)
+load_of b lives (Some (operation.OpenChannel handle aid)) f h e = absurd (none_published lives f e)
+load_of b lives (Some (operation.Raw handle apdu)) f h e = absurd (none_published lives f e)
+load_of b lives (Some (operation.Close handle)) f h e = absurd (none_published lives f e)
+load_of b lives (Some (operation.Verify key pin)) f h e = absurd (none_published lives f e)
+load_of b lives (Some (operation.End key)) f h e = absurd (none_published lives f e)
+load_of b lives (Some operation.Look) f h e = absurd (none_published lives f e)
 load_of b lives (Some op) f h e = absurd (true≢false (sym h))
 
 by_operation : (k : Kept) (b : Begun) (op : Option Operation) (f : ℕ) → ServesAt op → family_of_begun k (Some b) op ≡ Some f → LoadsIt op

@@ -1,5 +1,5 @@
 -- Laws of runs whose each line is the one that is due.
-use Rattle.std.specs.Prelude.{◌≡◌, ◌≤◌, ℕ, ◌++◌, not, Bool, true, false, nat_lt, List, [], ◌∷◌, length, Option, Some, None}
+use Rattle.std.specs.Prelude.{◌≡◌, ◌≤◌, ℕ, ◌&&◌, ◌++◌, not, Bool, true, false, nat_lt, nat_le, List, [], ◌∷◌, length, Option, Some, None}
 use Rattle.std.specs.List.{list_all}
 use Rattle.script_reader.specs.declared.types.Script.{Script}
 use Rattle.script_reader.specs.Rules.{keeps_rules}
@@ -8,6 +8,7 @@ use Rattle.report.specs.declared.line.Line.{Line}
 use Rattle.report.specs.declared.line.Line.TheVariants as line
 use Rattle.report.specs.declared.lines.Report.{Report}
 use Rattle.editor.specs.Editing.{no_editing}
+use Rattle.rules.specs.declared.holdings.Handle.{Handle}
 use Rattle.rules.specs.declared.kept.Begun.{Begun}
 use Rattle.rules.specs.declared.kept.Job.{Job}
 use Rattle.rules.specs.declared.kept.Kept.{Kept}
@@ -113,11 +114,13 @@ abbrev pub ArePlainJobs : List Job → Type 0
 ArePlainJobs [] = Unit {0}
 ArePlainJobs (job ∷ jobs) = IsPlainJob job × ArePlainJobs jobs
 
--- nor does it hold a channel or a session
+-- the number of a channel that it holds is that of a logical channel beside the basic one, ETSI TS 102 221 clause 8.7
+abbrev pub is_channel : Handle → Bool
+is_channel h = nat_le 1 h.number && nat_le h.number 19
+
 pub record IsPlain (k : Kept) : Type 0 where
   pub jobs : ArePlainJobs k.jobs
-  pub handles : k.handles ≡ []
-  pub sessions : k.sessions ≡ []
+  pub handles : list_all is_channel k.handles ≡ true
 
 abbrev pub StaysPlain : Type 0
 StaysPlain = (s : Script) (lines : List Line) → keeps_rules s ≡ true → serves s ≡ true → are_followed s lines ≡ true → IsPlain (kept_of s lines)

@@ -5,6 +5,8 @@ use Rattle.epoch_cache.specs.declared.past.Past.{Past}
 use Rattle.script_reader.specs.declared.types.Script.{Script}
 use Rattle.script_reader.specs.declared.types.Operation.{Operation}
 use Rattle.script_reader.specs.declared.types.Operation.TheVariants as operation
+use Rattle.report.specs.declared.answer.Answer.{Answer}
+use Rattle.report.specs.declared.answer.Answer.TheVariants as answer
 use Rattle.report.specs.declared.line.Line.{Line}
 use Rattle.report.specs.declared.line.Line.TheVariants as line
 use Rattle.rules.specs.Kept.{operation_at}
@@ -18,13 +20,12 @@ abbrev pub unless_held : List ℕ → Option ℕ → Option ℕ
 unless_held held None = None
 unless_held held (Some n) = if is_one_of n held then None else Some n
 
--- an operation whose answer may give its actor a channel or a session
-abbrev pub may_hold : Operation → Bool
-may_hold (operation.OpenChannel handle aid) = true
-may_hold (operation.Verify key pin) = true
-may_hold op = false
+-- an answer that gives its actor a channel or a session
+abbrev pub gives_holding : Operation → Answer → Bool
+gives_holding (operation.OpenChannel handle aid) (answer.Opened channel) = true
+gives_holding (operation.Verify key pin) answer.Verified = true
+gives_holding op given = false
 
--- the answer of such an operation
-abbrev pub line_may_hold : Script → Line → Bool
-line_may_hold s (line.Answered a i given) = has_value may_hold (operation_at s a i)
-line_may_hold s l = false
+abbrev pub line_gives_holding : Script → Line → Bool
+line_gives_holding s (line.Answered a i given) = has_value (λ op. gives_holding op given) (operation_at s a i)
+line_gives_holding s l = false

@@ -219,7 +219,7 @@ pub fn hold(
         ≡ session_rules.sessions_after actor operation.now answer.now epoch sessions.old) }
     ensures no_handle { OnErr result (handles.new ≡ handles.old) }
     ensures no_session { OnErr result (sessions.new ≡ sessions.old) }
-    ensures room { holdings.may_hold operation.now ≡ false → IsOk result }
+    ensures room { holdings.gives_holding operation.now answer.now ≡ false → IsOk result }
 {
     match (operation, answer) {
         (Operation::OpenChannel { handle, .. }, Answer::Opened { channel }) => {

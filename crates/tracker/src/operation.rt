@@ -11,7 +11,7 @@ ghost use Rattle.rules.specs.Cache.{files_behind as files_after_line};
 ghost use Rattle.rules.specs.Channels.{held_numbers};
 ghost use Rattle.rules.specs.Kept.{begun_of, change_at, job_of, operation_at as operation_in, operation_now as operation_now_of};
 ghost use Rattle.rules.specs.declared.kept.Job.{Job};
-ghost use Rattle.tracker.specs.Held.{line_may_hold, may_hold};
+ghost use Rattle.tracker.specs.Held.{gives_holding, line_gives_holding};
 ghost use Rattle.tracker.specs.Lines.{is_answered, is_exchange, is_failed};
 ghost use Rattle.tracker.specs.Room.{HasRoom, begun_fits, line_fits, operation_fits, own_has_room};
 
@@ -261,7 +261,8 @@ fn hold_at(
         (Line.Answered actor op answer.now) epoch sessions.old) }
     ensures no_handle { OnErr result (handles.new ≡ handles.old) }
     ensures no_session { OnErr result (sessions.new ≡ sessions.old) }
-    ensures room { has_value may_hold (operation_in script.now actor op) ≡ false → IsOk result }
+    ensures room { has_value (λ o. gives_holding o answer.now) (operation_in script.now actor op)
+        ≡ false → IsOk result }
 {
     match operation_at(script, actor, op) {
         None => Ok(()),
@@ -283,7 +284,8 @@ fn keep_answered_of(
     ensures ok { OnOk result (kept.new
         ≡ kept_after script.now (Line.Answered actor op answer.now) kept.old) }
     ensures err { OnErr result (kept.new ≡ kept.old) }
-    ensures room { has_value may_hold (operation_in script.now actor op) ≡ false → IsOk result }
+    ensures room { has_value (λ o. gives_holding o answer.now) (operation_in script.now actor op)
+        ≡ false → IsOk result }
 {
     let facts = facts_of(script, line, kept);
     let operation = operation_at(script, actor, op);
@@ -315,7 +317,7 @@ pub fn keep_answered(
     requires room { HasRoom kept.old }
     ensures ok { OnOk result (kept.new ≡ kept_after script.now line.now kept.old) }
     ensures err { OnErr result (kept.new ≡ kept.old) }
-    ensures room { line_may_hold script.now line.now ≡ false → IsOk result }
+    ensures room { line_gives_holding script.now line.now ≡ false → IsOk result }
 {
     match line {
         Line::Answered { actor, op, answer } => {

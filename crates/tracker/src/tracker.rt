@@ -2,7 +2,7 @@
 ghost use Rattle.std.specs.Prelude.{◌≡◌, ◌<◌, ◌≤◌, true, false, length, IsOk, IfOk, OnOk, OnErr};
 ghost use Rattle.rules.specs.After.{decision_at, kept_after};
 ghost use Rattle.rules.specs.Kept.{nothing_kept as nothing_is_kept};
-ghost use Rattle.tracker.specs.Held.{line_may_hold};
+ghost use Rattle.tracker.specs.Held.{line_gives_holding};
 ghost use Rattle.tracker.specs.Lines as kind;
 ghost use Rattle.tracker.specs.Room.{HasRoom, line_fits as line_fits_of};
 
@@ -167,13 +167,13 @@ impl Tracker {
         keep_refused(self.alloc, script, family, event, &mut self.kept);
     }
 
-    /// An operation was answered. Want of memory changes nothing, and comes only where the answer may give its actor a channel or a session.
+    /// An operation was answered. Want of memory changes nothing, and comes only where the answer gives its actor a channel or a session.
     pub fn answer(&mut self, script: &Script, line: &Line) -> Result<(), Memory>
         requires kind { kind.is_answered line.now ≡ true }
         requires room { HasRoom self.old }
         ensures ok { OnOk result (self.new ≡ kept_after script.now line.now self.old) }
         ensures err { OnErr result (self.new ≡ self.old) }
-        ensures room { line_may_hold script.now line.now ≡ false → IsOk result }
+        ensures room { line_gives_holding script.now line.now ≡ false → IsOk result }
     {
         keep_answered(self.alloc, script, line, &mut self.kept)
     }

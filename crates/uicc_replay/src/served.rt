@@ -10,7 +10,14 @@ fn is_served(operation: &Operation) -> bool
 {
     matches!(
         operation,
-        Operation::Insert { .. } | Operation::Load { .. } | Operation::Look
+        Operation::Insert { .. }
+            | Operation::Load { .. }
+            | Operation::OpenChannel { .. }
+            | Operation::Raw { .. }
+            | Operation::Close { .. }
+            | Operation::Verify { .. }
+            | Operation::End { .. }
+            | Operation::Look
     )
 }
 
@@ -26,7 +33,8 @@ fn are_actors_served(actors: &ActorSpecs) -> bool
     actors.as_slice().iter().all(are_served)
 }
 
-/// Whether a script is served: its actors insert cards, load and look, and no call fails.
+/// Whether a script is served: its actors insert cards, load and look, open channels, send commands on them and close
+/// them, begin and end sessions of PINs, and no call fails.
 pub fn serves(script: &Script) -> bool
     ensures { result ≡ serves script.now }
 {

@@ -1,4 +1,4 @@
-use Rattle.hub.proofs.Gives.{gives_begun, gives_short}
+use Rattle.hub.proofs.Gives.{gives_behind, gives_begun, gives_short}
 use Rattle.hub.proofs.engine.Engine.give.Goals as goal
 
 pub answer-requires-clause-begun : goal.answer-requires-clause-begun
@@ -6,3 +6,6 @@ answer-requires-clause-begun g c = gives_begun c.args.self.now.script c.args.sel
 
 pub answer-requires-clause-bytes : goal.answer-requires-clause-bytes
 answer-requires-clause-bytes g c = gives_short c.args.self.now.script c.args.self.now.tracker c.args.answer c.requires.turn.tied.lines.served c.requires.due
+
+pub answer-requires-clause-moved : goal.answer-requires-clause-moved
+answer-requires-clause-moved g c = gives_behind c.args.self.now.script c.args.self.now.tracker c.args.answer c.args.from c.requires.turn.tied.lines.served c.requires.due c.requires.since

@@ -5,16 +5,17 @@ use Rattle.hub.proofs.Lively.{world_inside}
 use Rattle.hub.proofs.Played.{exchange_played, failed_played}
 use Rattle.hub.proofs.Scripts.{fits_now}
 use Rattle.hub.proofs.Steps.{always_err}
-use Rattle.hub.proofs.Ties.{broke_behind, has_line, one_more, plan_now}
+use Rattle.hub.proofs.Ties.{broke_behind, broke_since, has_line, one_more, plan_now}
 use Rattle.hub.proofs.engine.Engine.send.Goals as goal
 
 pub exchange-requires-in-Ok-clause-operation : goal.exchange-requires-in-Ok-clause-operation
-exchange-requires-in-Ok-clause-operation g c = fits_now c.args.self.now.script c.args.actor c.args.self.now.tracker.jobs c.requires.turn.tied.lines.served
+exchange-requires-in-Ok-clause-operation g c = fits_now c.args.self.now.script c.args.actor c.args.self.now.tracker.jobs c.requires.turn.tied.lines.rules c.requires.turn.tied.lines.served
 
 pub returns-in_err-exchange-in-Ok-clause-err : goal.returns-in_err-exchange-in-Ok-clause-err
 returns-in_err-exchange-in-Ok-clause-err g c =
-    always_err _ _ (broke_behind _ _ _ _ _ (line.Exchange c.args.actor c.args.command c.in-Ok.response) c.requires.turn.tied
-    c.push_within.ensures.lines refl refl c.in-Ok.ensures.tells c.in-Ok.ensures.tells_plan)
+    always_err _ _ (broke_since _ _ _ _ c.requires.since.started
+    (broke_behind _ _ _ _ _ (line.Exchange c.args.actor c.args.command c.in-Ok.response) c.requires.turn.tied
+    c.push_within.ensures.lines refl refl c.in-Ok.ensures.tells c.in-Ok.ensures.tells_plan))
 
 pub returns-in_ok-exchange-in-Ok-clause-line : goal.returns-in_ok-exchange-in-Ok-clause-line
 returns-in_ok-exchange-in-Ok-clause-line g c =

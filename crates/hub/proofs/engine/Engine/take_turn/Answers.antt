@@ -1,5 +1,5 @@
-use Rattle.std.proofs.Common.{◌∙◌, sym, ap, arith}
-use Rattle.hub.proofs.Steps.{always_err, awake_pending, broken, from_start, may_publish, next_turning, other_performed, published_turning, since, stays_then, steps_fall}
+use Rattle.std.proofs.Common.{◌∙◌, sym, refl, ap}
+use Rattle.hub.proofs.Steps.{always_err, awake_pending, broken, first_turning, from_start, may_publish, next_turning, other_performed, published_turning, since, stays_then, steps_fall}
 use Rattle.hub.proofs.Turning.{under_way}
 use Rattle.hub.proofs.engine.Engine.take_turn.Goals as goal
 
@@ -23,8 +23,8 @@ publish-requires-clause-may g c =
 
 pub returns-in_err-publish-in-Publish-clause-err : goal.returns-in_err-publish-in-Publish-clause-err
 returns-in_err-publish-in-Publish-clause-err g c =
-    always_err _ _ (broken _ _ _ _ _ _ _
-    (c.lines.invariant.from ∙ ap (λ k. k.history.events) c.requires.settled.tied.kept) (omega arith)
+    always_err _ _ (broken _ _ _ _ _ _
+    (c.lines.invariant.from ∙ ap (λ k. k.history.events) c.requires.settled.tied.kept)
     c.lines.invariant.stays c.lines.invariant.turning c.in_err-publish-in-Publish.ensures.err)
 
 pub lines-smaller-in_ok-publish-in-Publish-3 : goal.lines-smaller-in_ok-publish-in-Publish-3
@@ -40,15 +40,15 @@ lines-preserved-in_ok-publish-in-Publish-3 g c = record {
 pub perform-requires : goal.perform-requires
 perform-requires g c = record {
   turn = under_way _ _ _ _ c.lines.invariant.turning;
+  since = since _ _ _ _ _ c.lines.invariant.from c.requires.settled.tied c.lines.invariant.stays c.lines.invariant.turning;
   due = sym c.next-line.ensures;
   performed = other_performed c.next-line.result (sym c.ends_turn.ensures ∙ c.if-ends_turn.false) c.in_default.not-Publish;
 }
 
 pub returns-in_err-perform-in_default-clause-err : goal.returns-in_err-perform-in_default-clause-err
 returns-in_err-perform-in_default-clause-err g c =
-    always_err _ _ (broken _ _ _ _ _ _ _
+    always_err _ _ (broken _ _ _ _ _ _
     (c.lines.invariant.from ∙ ap (λ k. k.history.events) c.requires.settled.tied.kept)
-    (since _ _ _ _ _ c.lines.invariant.from c.requires.settled.tied c.lines.invariant.stays c.lines.invariant.turning)
     c.lines.invariant.stays c.lines.invariant.turning c.in_err-perform-in_default.ensures.err)
 
 pub lines-smaller : goal.lines-smaller
