@@ -24,11 +24,13 @@ fn a_long_number_takes_an_extension_row(rt: HostRuntime) -> Result<(), Fail> {
     let main = linear(alloc, "FFFFFFFFFFFFFFFFFFFFFFFFFFFFFFFFFFFFFFFFFFFFFFFF")?;
     let ext = linear(alloc, "FFFFFFFFFFFFFFFFFFFFFFFFFF")?;
     let edit = long_number(alloc)?;
-    let Ok(Plan {
-        before: Some(before),
-        deciding,
-        after: None,
-    }) = plan_edit(alloc, &edit, &main, &ext)?
+    let Ok(
+        Plan {
+            before: Some(before),
+            deciding,
+            after: None,
+        },
+    ) = plan_edit(alloc, &edit, &main, &ext)?
     else {
         return Err("a plan".into());
     };
