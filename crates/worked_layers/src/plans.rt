@@ -1,7 +1,7 @@
 // The plan of an edit of a phonebook.
 
 use crate::shown::linear;
-use adn::{AdnEntry, Edit, Plan};
+use adn::{AdnEntry, Edit};
 use apdu::{Memory, Text};
 use book_plans::plan_edit;
 use std::alloc::Global;
@@ -24,19 +24,11 @@ fn a_long_number_takes_an_extension_row(rt: HostRuntime) -> Result<(), Fail> {
     let main = linear(alloc, "FFFFFFFFFFFFFFFFFFFFFFFFFFFFFFFFFFFFFFFFFFFFFFFF")?;
     let ext = linear(alloc, "FFFFFFFFFFFFFFFFFFFFFFFFFF")?;
     let edit = long_number(alloc)?;
-    let Ok(
-        Plan {
-            before: Some(before),
-            deciding,
-            after: None,
-        },
-    ) = plan_edit(alloc, &edit, &main, &ext)?
-    else {
-        return Err("a plan".into());
-    };
+    let plan = plan_edit(alloc, &edit, &main, &ext)?.map_err(|_| "a plan")?;
+    let before = plan.before.as_ref().ok_or("an extension row")?;
     let extension = hex::decode(alloc, "020121FFFFFFFFFFFFFFFFFFFF")?;
     assert_eq!(&rt; before.bytes.as_slice(), extension.as_slice());
     let entry = hex::decode(alloc, "416E6EFFFFFFFFFFFFFF0B8121436587092143658709FF01")?;
-    assert_eq!(&rt; deciding.bytes.as_slice(), entry.as_slice());
+    assert_eq!(&rt; plan.deciding.bytes.as_slice(), entry.as_slice());
     Ok(())
 }
