@@ -4,6 +4,7 @@ ghost use Rattle.script_generator.specs.Draws.{next, behind, drawn, draw};
 ghost use Rattle.script_generator.specs.Generated.{digit_pair, number};
 
 /// What the next draws depend on.
+#[derive(Drop)]
 pub(crate) struct Draws {
     state: u64,
     ghost fits: { state < 2 ^ 32 },

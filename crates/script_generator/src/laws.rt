@@ -1,5 +1,6 @@
 // The definitions, tied to worked values: functions that do nothing, whose clauses are computed.
-ghost use Rattle.std.specs.Prelude.{◌≡◌, ◌∷◌, ◌++◌, [], Some, slice_get, replicate, length};
+ghost use Rattle.std.specs.Prelude.{◌≡◌, ◌<◌, ◌≤◌, ◌^◌, ℕ, true, ◌∷◌, ◌++◌, [], Some, slice_get, replicate, length};
+ghost use Rattle.script_reader.specs.Rules.{keeps_rules};
 ghost use Rattle.script_generator.specs.Draws.{draw};
 ghost use Rattle.script_generator.specs.Generated.{book_rows, generated};
 ghost use Rattle.script_generator.specs.Working.{work};
@@ -18,4 +19,9 @@ pub fn draws_of_one()
 /// The work of the script of one load.
 pub fn work_of_one_load()
     ensures { work one_load ≡ 2304 }
+{}
+
+/// A generated script keeps every rule.
+pub fn generated_keeps()
+    ensures { (seed size : ℕ) → seed < 2 ^ 32 → 1 ≤ size → size ≤ 250 → keeps_rules (generated seed size) ≡ true }
 {}

@@ -4,7 +4,7 @@
 mod book;
 mod draws;
 mod files;
-mod generate;
+mod usual;
 mod laws;
 
-pub use generate::generate;
+pub use usual::generate;

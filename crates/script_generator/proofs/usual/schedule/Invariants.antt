@@ -1,7 +1,7 @@
 use Rattle.std.proofs.Common.{◌≡◌, [], ◌∷◌, ◌++◌}
 use Rattle.script_generator.specs.Draws.{behind}
 use Rattle.script_generator.specs.Generated as spec
-use Rattle.script_generator.proofs.generate.schedule.Given as goal
+use Rattle.script_generator.proofs.usual.schedule.Given as goal
 
 abbrev pub invariant-loop-_turn : goal.invariant-loop-_turn
 invariant-loop-_turn l = record {
