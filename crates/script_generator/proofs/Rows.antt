@@ -1,5 +1,5 @@
 -- The first rows, one by one.
-use Rattle.std.proofs.Common.{◌≡◌, ℕ, ◌+◌, ◌%◌, [], ◌∷◌, ◌++◌, refl, add-one}
+use Rattle.std.proofs.Common.{◌≡◌, ℕ, zero, suc, List, replicate, ap, ◌+◌, ◌%◌, [], ◌∷◌, ◌++◌, refl, add-one}
 use Rattle.script_generator.specs.Generated.{behind_row, behind_rows, book_row, book_rows, turns}
 use Rattle.script_generator.specs.Draws.{next, behind, draw}
 
@@ -14,3 +14,11 @@ turns_more state n = rw (add-one n) refl
 
 pub states_more : (state n : ℕ) → behind state (n + 1) ≡ next (behind state n)
 states_more state n = rw (add-one n) refl
+
+-- one more of the same rows
+again : (n : ℕ) (row : List ℕ) → replicate (suc n) row ≡ replicate n row ++ row ∷ []
+again zero row = refl
+again (suc n) row = ap (λ (rows : List (List ℕ)). row ∷ rows) (again n row)
+
+pub one_more : (n : ℕ) (row : List ℕ) → replicate (n + 1) row ≡ replicate n row ++ row ∷ []
+one_more n row = rw (add-one n) (again n row)

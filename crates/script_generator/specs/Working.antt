@@ -1,6 +1,6 @@
 -- How many events a run of a script may have, whatever its order of turns and its faults: a bound by the sizes of the script, which
 -- is this project's own.
-use Rattle.std.specs.Prelude.{ℕ, ◌+◌, ◌*◌, ◌/◌, Bool, true, false, max, if◌then◌else◌, List, [], ◌∷◌, ◌++◌, length, Option, Some, None}
+use Rattle.std.specs.Prelude.{ℕ, ◌+◌, ◌*◌, ◌/◌, ◌%◌, ◌==◌, Bool, true, false, max, if◌then◌else◌, List, [], ◌∷◌, ◌++◌, length, Option, Some, None}
 use Rattle.apdu.specs.Words.{is_one_of, same_bytes, path_is_in}
 use Rattle.fcp.specs.declared.control.ArrRef.{ArrRef}
 use Rattle.card_model.specs.Card.{last_id, rule_file_path}
@@ -18,7 +18,7 @@ use Rattle.script_reader.specs.Operations.{operation_count}
 
 -- a READ gives one record, or at most 255 bytes
 abbrev pub reads_of : KindSpec → ℕ
-reads_of (Transparent bytes) = (length bytes + 254) / 255
+reads_of (Transparent bytes) = length bytes / 255 + (if length bytes % 255 == 0 then 0 else 1)
 reads_of (Linear len rows) = length rows
 
 abbrev pub reads_at : List ℕ → FileSpec → ℕ
@@ -75,9 +75,13 @@ abbrev pub reading_sum : List FileSpec → List (List ℕ) → ℕ
 reading_sum files [] = 0
 reading_sum files (path ∷ paths) = (if path_is_in paths path then 0 else 1 + most_reads path files) + reading_sum files paths
 
+-- the paths that these files bring, those that these cards and changes bring, and those of the families
+abbrev pub later_paths : List FileSpec → List CardSpec → List ChangeSpec → List (List ℕ)
+later_paths files cards changes = brought (files ++ (card_files cards ++ change_files changes)) ++ family_paths
+
 -- the commands that read everything once, the paths of access rules too
 abbrev pub whole_reading : Script → ℕ
-whole_reading s = reading_sum (all_files s) (brought (all_files s) ++ family_paths)
+whole_reading s = reading_sum (all_files s) (later_paths [] s.cards s.changes)
 
 -- ---- operations
 

@@ -117,11 +117,12 @@ fn rule_file(alloc: Global) -> Result<FileSpec, Memory>
     Ok(linear_file(&[0x2F06], 11, rows))
 }
 
+#[tactic(auto, using(crate::proofs::Rows::one_more))]
 fn extension_rows(alloc: Global) -> Result<RowSpecs, Memory>
     ensures { IfOk result (λ rows. rows ≡ replicate 10 (replicate 13 0xFF)) }
 {
     let mut rows = Sequence::new(alloc);
-    for _ in 0..EXTENSIONS {
+    for _row in 0..EXTENSIONS {
         rows.push(Bytes::from_slice(alloc, &FREE_EXTENSION)?)?;
     }
     Ok(rows)

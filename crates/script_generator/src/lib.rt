@@ -2,9 +2,11 @@
 #![tactic(auto)]
 
 mod book;
+mod counts;
 mod draws;
 mod files;
-mod usual;
 mod laws;
+mod reading;
+mod usual;
 
 pub use usual::generate;
