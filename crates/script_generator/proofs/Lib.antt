@@ -2,3 +2,5 @@ pub mod Names
 pub mod Rows
 pub mod Keeps
 pub mod Appended
+pub mod Left
+pub mod Bounds

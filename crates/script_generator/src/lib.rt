@@ -2,11 +2,14 @@
 #![tactic(auto)]
 
 mod book;
-mod counts;
+mod bound;
 mod draws;
 mod files;
 mod laws;
 mod reading;
+mod reads;
+mod rule_paths;
 mod usual;
 
+pub use bound::work;
 pub use usual::generate;
