@@ -184,6 +184,7 @@ few_files s p =
     record { few = omega (arith, few, some_cards, some_changes); within = all.within }
 
 reading_few_of : (s : Script) → Parts s → whole_reading s ≤ 2222325
+unfolding whole_reading
 reading_few_of s p =
     let files = few_files s p in
     let few = files.few in
@@ -228,9 +229,7 @@ all_few [] = omega arith
 all_few (ops ∷ actors) =
     let now = kinds_few ops in
     let later = all_few actors in
-    let edits = sum_by-cons (count_by is_edit) ops actors in
-    let moves = sum_by-cons (count_by is_move) ops actors in
-    omega (arith, now, later, edits, moves)
+    omega (arith, now, later)
 
 operations_few_of : (s : Script) → Parts s → operation_count s.actors ≤ 1000
 operations_few_of s p =
@@ -255,6 +254,13 @@ moves_few s e =
 
 pub faults_few : (s : Script) → keeps_rules s ≡ true → length s.faults ≤ 100
 faults_few s e = leb-true (length s.faults) 100 (first (nat_le (length s.faults) 100) (are_calls_behind 0 s.faults) (parts_of s e).faults)
+
+pub changes_few : (s : Script) → keeps_rules s ≡ true → count_all is_move s.actors + length s.faults + count_all is_edit s.actors ≤ 1100
+changes_few s e =
+    let few = operations_few s e in
+    let all = all_few s.actors in
+    let faults = faults_few s e in
+    omega (arith, few, all, faults)
 
 -- ---- products
 
@@ -283,6 +289,7 @@ disturbances_few moves edits few =
     omega (arith, square, most)
 
 pub script_disturbed : (s : Script) → keeps_rules s ≡ true → disturbances_of s ≤ 909701
+unfolding disturbances_of
 script_disturbed s e =
     let few = operations_few s e in
     let all = all_few s.actors in

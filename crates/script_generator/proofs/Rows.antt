@@ -6,7 +6,7 @@ use Rattle.script_generator.specs.Generated.{behind_row, behind_rows, book_row, 
 use Rattle.script_generator.specs.Draws.{next, behind, draw}
 
 pub rows_more : (seed n : ℕ) → book_rows seed (n + 1) ≡ book_rows seed n ++ book_row (n + 1) (behind_rows seed n) ∷ []
-rows_more seed n = rw (add-one n) refl
+rows_more seed n = ap (book_rows seed) (add-one n)
 
 pub behind_more : (seed n : ℕ) → behind_rows seed (n + 1) ≡ behind_row (behind_rows seed n)
 behind_more seed n = rw (add-one n) refl

@@ -1,7 +1,6 @@
 -- How many events a run of a script may have, whatever its order of turns and its faults: a bound by the sizes of the script, which
 -- is this project's own.
 use Rattle.std.specs.Prelude.{ℕ, ◌+◌, ◌*◌, ◌/◌, ◌%◌, ◌==◌, Bool, true, false, max, if◌then◌else◌, count_by, List, [], ◌∷◌, ◌++◌, length, Option, Some, None}
-use Rattle.std.specs.List.{sum_by}
 use Rattle.apdu.specs.Words.{is_one_of, same_bytes, path_is_in}
 use Rattle.fcp.specs.declared.control.ArrRef.{ArrRef}
 use Rattle.card_model.specs.Card.{last_id, rule_file_path}
@@ -81,7 +80,7 @@ reading_sum files [] = 0
 reading_sum files (path ∷ paths) = (if path_is_in paths path then 0 else 1 + most_reads path files) + reading_sum files paths
 
 -- the commands that read everything once, the access rules too
-abbrev pub whole_reading : Script → ℕ
+unfoldable pub whole_reading : Script → ℕ
 whole_reading s = reading_sum (all_files s) (paths_read s)
 
 -- ---- operations
@@ -101,7 +100,8 @@ is_move _ = false
 
 -- how many operations of all actors pass a test
 abbrev pub count_all : (Operation → Bool) → List (List Operation) → ℕ
-count_all test actors = sum_by (count_by test) actors
+count_all test [] = 0
+count_all test (operations ∷ actors) = count_by test operations + count_all test actors
 
 -- ---- the bound
 
@@ -109,7 +109,7 @@ count_all test actors = sum_by (count_by test) actors
 abbrev pub disturbances : ℕ → ℕ → ℕ
 disturbances moves edits = (moves + 1) * (3 * edits + 1)
 
-abbrev pub disturbances_of : Script → ℕ
+unfoldable pub disturbances_of : Script → ℕ
 disturbances_of s = disturbances (count_all is_move s.actors + length s.faults) (count_all is_edit s.actors)
 
 -- for the commands of a whole reading, so many operations and so many disturbances

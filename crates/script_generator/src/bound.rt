@@ -45,43 +45,57 @@ fn edits(actors: &[Operations]) -> u64
     requires { spec.count_all spec.is_edit actors.now < 2 ^ 64 }
     ensures { result ≡ spec.count_all spec.is_edit actors.now }
 {
-    actors
-        .iter()
-        .map(|operations| edits_in(operations.as_slice()) as u64)
-        .sum()
+    let [operations, behind @ ..] = actors else {
+        return 0;
+    };
+    edits_in(operations.as_slice()) as u64 + edits(behind)
 }
 
 fn moves(actors: &[Operations]) -> u64
     requires { spec.count_all spec.is_move actors.now < 2 ^ 64 }
     ensures { result ≡ spec.count_all spec.is_move actors.now }
 {
-    actors
-        .iter()
-        .map(|operations| moves_in(operations.as_slice()) as u64)
-        .sum()
+    let [operations, behind @ ..] = actors else {
+        return 0;
+    };
+    moves_in(operations.as_slice()) as u64 + moves(behind)
 }
 
 fn operations_of(actors: &[Operations]) -> u64
     requires { operation_count actors.now < 2 ^ 64 }
     ensures { result ≡ operation_count actors.now }
 {
-    let mut count = 0;
-    let mut rest = actors;
-    while let [operations, others @ ..] = rest {
-        count += operations.len() as u64;
-        rest = others;
-    }
-    count
+    let [operations, behind @ ..] = actors else {
+        return 0;
+    };
+    operations.len() as u64 + operations_of(behind)
 }
 
-/// How often what is read may become stale.
+/// How often what is read may become stale, for so many moves and edits.
+#[tactic(auto, using(crate::proofs::Bounds::disturbances_few))]
+fn disturbances_by(moves: u64, edits: u64) -> u64
+    requires { moves + edits ≤ 1100 }
+    ensures { result ≡ spec.disturbances moves edits }
+{
+    (moves + 1) * (3 * edits + 1)
+}
+
 fn disturbances(script: &Script) -> u64
     requires { keeps_rules script.now ≡ true }
     ensures { result ≡ spec.disturbances_of script.now }
 {
     let actors = script.actors.as_slice();
-    let moves = moves(actors) + script.faults.len() as u64;
-    (moves + 1) * (3 * edits(actors) + 1)
+    disturbances_by(moves(actors) + script.faults.len() as u64, edits(actors))
+}
+
+#[tactic(auto, using(crate::proofs::Bounds::front_fits, crate::proofs::Bounds::work_fits))]
+fn work_by(reading: u64, operations: u64, disturbed: u64) -> u64
+    requires reading { reading ≤ 2222325 }
+    requires operations { operations ≤ 1000 }
+    requires disturbed { disturbed ≤ 909701 }
+    ensures { result ≡ spec.work_of reading operations disturbed }
+{
+    (8 * reading + 32) * (operations + disturbed + 2) * (disturbed + 1)
 }
 
 /// The most events that a run of the script may have. It takes no memory.
@@ -91,6 +105,5 @@ pub fn work(script: &Script) -> u64
 {
     let reading = whole_reading(script);
     let operations = operations_of(script.actors.as_slice());
-    let disturbed = disturbances(script);
-    (8 * reading + 32) * (operations + disturbed + 2) * (disturbed + 1)
+    work_by(reading, operations, disturbances(script))
 }

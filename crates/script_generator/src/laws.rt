@@ -17,6 +17,7 @@ pub fn draws_of_one()
 {}
 
 /// The work of the script of one load.
+#[tactic(auto, unfolding(crate::specs::Working::whole_reading, crate::specs::Working::disturbances_of))]
 pub fn work_of_one_load()
     ensures { work one_load ≡ 2304 }
 {}

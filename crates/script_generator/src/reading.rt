@@ -1,13 +1,14 @@
 // How many commands read every file that a run may read, each path once.
-ghost use Rattle.std.specs.Prelude.{◌≡◌, ◌<◌, ◌+◌, ◌^◌, ◌++◌, [], ◌∷◌};
+ghost use Rattle.std.specs.Prelude.{◌≡◌, ◌<◌, ◌+◌, ◌^◌, [], ◌∷◌};
 ghost use Rattle.script_generator.specs.Working as spec;
-ghost use Rattle.script_generator.specs.Walked.{paths_left, reading_left};
+ghost use Rattle.script_generator.specs.Walked.{reading_left, reading_named};
 
 use crate::reads::most_reads;
-use crate::rule_paths::{is_left, is_named, is_rule_path, rule_file_path};
+use crate::rule_paths::{comes_again, is_left, is_rule_path, rule_file_path};
 use script_reader::{CardSpec, ChangeSpec, FileSpec, Script};
 
 /// What the EF_ARR that a file names adds, where it does not come again.
+#[tactic(auto, using(crate::proofs::Left::none_named, crate::proofs::Left::named_again, crate::proofs::Left::named_once))]
 fn named_sum(
     script: &Script,
     file: &FileSpec,
@@ -15,13 +16,9 @@ fn named_sum(
     cards: &[CardSpec],
     changes: &[ChangeSpec],
 ) -> u64
-    requires fits { spec.reading_sum (spec.all_files script.now)
-        (spec.named_path file.now.path file.now.arr
-            ++ paths_left files.now cards.now changes.now) < 2 ^ 64 }
+    requires { reading_named script.now file.now files.now cards.now changes.now < 2 ^ 64 }
     ensures { result + reading_left script.now files.now cards.now changes.now
-        ≡ spec.reading_sum (spec.all_files script.now)
-            (spec.named_path file.now.path file.now.arr
-                ++ paths_left files.now cards.now changes.now) }
+        ≡ reading_named script.now file.now files.now cards.now changes.now }
 {
     let Some(arr) = file.arr else {
         return 0;
@@ -35,6 +32,7 @@ fn named_sum(
 }
 
 /// What a file adds where it is an EF_ARR that does not come again.
+#[tactic(auto, using(crate::proofs::Left::not_own, crate::proofs::Left::own_again, crate::proofs::Left::own_once))]
 fn own_sum(
     script: &Script,
     file: &FileSpec,
@@ -42,15 +40,15 @@ fn own_sum(
     cards: &[CardSpec],
     changes: &[ChangeSpec],
 ) -> u64
-    requires fits { reading_left script.now (file.now ∷ files.now) cards.now changes.now
-        < 2 ^ 64 }
-    ensures { result + spec.reading_sum (spec.all_files script.now)
-            (spec.named_path file.now.path file.now.arr
-                ++ paths_left files.now cards.now changes.now)
+    requires { reading_left script.now (file.now ∷ files.now) cards.now changes.now < 2 ^ 64 }
+    ensures { result + reading_named script.now file.now files.now cards.now changes.now
         ≡ reading_left script.now (file.now ∷ files.now) cards.now changes.now }
 {
     let path = file.path.ids();
-    if !is_rule_path(path) || is_named(path, file) || is_left(path, files, cards, changes) {
+    if !is_rule_path(path) {
+        return 0;
+    }
+    if comes_again(file, files, cards, changes) {
         0
     } else {
         1 + most_reads(path, script) as u64
@@ -64,53 +62,48 @@ fn files_sum(
     cards: &[CardSpec],
     changes: &[ChangeSpec],
 ) -> u64
-    requires fits { reading_left script.now files.now cards.now changes.now < 2 ^ 64 }
+    requires { reading_left script.now files.now cards.now changes.now < 2 ^ 64 }
     ensures { result + reading_left script.now [] cards.now changes.now
         ≡ reading_left script.now files.now cards.now changes.now }
 {
-    let mut sum = 0;
-    let mut rest = files;
-    while let [file, others @ ..] = rest {
-        sum += own_sum(script, file, others, cards, changes)
-            + named_sum(script, file, others, cards, changes);
-        rest = others;
-    }
-    sum
+    let [file, behind @ ..] = files else {
+        return 0;
+    };
+    own_sum(script, file, behind, cards, changes)
+        + named_sum(script, file, behind, cards, changes)
+        + files_sum(script, behind, cards, changes)
 }
 
 /// What some cards add, before these changes.
+#[tactic(auto, using(crate::proofs::Left::card_more))]
 fn cards_sum(script: &Script, cards: &[CardSpec], changes: &[ChangeSpec]) -> u64
-    requires fits { reading_left script.now [] cards.now changes.now < 2 ^ 64 }
+    requires { reading_left script.now [] cards.now changes.now < 2 ^ 64 }
     ensures { result + reading_left script.now [] [] changes.now
         ≡ reading_left script.now [] cards.now changes.now }
 {
-    let mut sum = 0;
-    let mut rest = cards;
-    while let [card, others @ ..] = rest {
-        sum += files_sum(script, card.files.as_slice(), others, changes);
-        rest = others;
-    }
-    sum
+    let [card, behind @ ..] = cards else {
+        return 0;
+    };
+    files_sum(script, card.files.as_slice(), behind, changes) + cards_sum(script, behind, changes)
 }
 
 /// What some changes add, before the files of the families.
+#[tactic(auto, using(crate::proofs::Left::change_more))]
 fn changes_sum(script: &Script, changes: &[ChangeSpec]) -> u64
-    requires fits { reading_left script.now [] [] changes.now < 2 ^ 64 }
+    requires { reading_left script.now [] [] changes.now < 2 ^ 64 }
     ensures { result + reading_left script.now [] [] []
         ≡ reading_left script.now [] [] changes.now }
 {
-    let mut sum = 0;
-    let mut rest = changes;
-    while let [change, others @ ..] = rest {
-        sum += files_sum(script, change.files.as_slice(), &[], others);
-        rest = others;
-    }
-    sum
+    let [change, behind @ ..] = changes else {
+        return 0;
+    };
+    files_sum(script, change.files.as_slice(), &[], behind) + changes_sum(script, behind)
 }
 
 /// What the files of the families add.
+#[tactic(auto, unfolding(crate::specs::Walked::reading_left))]
 fn families_sum(script: &Script) -> u64
-    requires fits { reading_left script.now [] [] [] < 2 ^ 64 }
+    requires { reading_left script.now [] [] [] < 2 ^ 64 }
     ensures { result ≡ reading_left script.now [] [] [] }
 {
     let records = 6
@@ -130,8 +123,9 @@ fn families_sum(script: &Script) -> u64
 }
 
 /// The commands that read everything once, the access rules too.
+#[tactic(auto, using(crate::proofs::Left::whole_left))]
 pub(crate) fn whole_reading(script: &Script) -> u64
-    requires fits { spec.whole_reading script.now < 2 ^ 64 }
+    requires { spec.whole_reading script.now < 2 ^ 64 }
     ensures { result ≡ spec.whole_reading script.now }
 {
     let cards = script.cards.as_slice();

@@ -29,39 +29,30 @@ fn reads_at(path: &[u16], file: &FileSpec) -> usize
 fn most_of_files(path: &[u16], files: &[FileSpec]) -> usize
     ensures { result ≡ spec.most_reads path.now files.now }
 {
-    let mut most = 0;
-    let mut rest = files;
-    while let [file, others @ ..] = rest {
-        most = most.max(reads_at(path, file));
-        rest = others;
-    }
-    most
+    let [file, behind @ ..] = files else {
+        return 0;
+    };
+    reads_at(path, file).max(most_of_files(path, behind))
 }
 
-#[tactic(auto, using(crate::proofs::Appended::most_appended))]
+#[tactic(auto, using(crate::proofs::Appended::most_of_card))]
 fn most_of_cards(path: &[u16], cards: &[CardSpec]) -> usize
     ensures { result ≡ spec.most_reads path.now (spec.card_files cards.now) }
 {
-    let mut most = 0;
-    let mut rest = cards;
-    while let [card, others @ ..] = rest {
-        most = most.max(most_of_files(path, card.files.as_slice()));
-        rest = others;
-    }
-    most
+    let [card, behind @ ..] = cards else {
+        return 0;
+    };
+    most_of_files(path, card.files.as_slice()).max(most_of_cards(path, behind))
 }
 
-#[tactic(auto, using(crate::proofs::Appended::most_appended))]
+#[tactic(auto, using(crate::proofs::Appended::most_of_change))]
 fn most_of_changes(path: &[u16], changes: &[ChangeSpec]) -> usize
     ensures { result ≡ spec.most_reads path.now (spec.change_files changes.now) }
 {
-    let mut most = 0;
-    let mut rest = changes;
-    while let [change, others @ ..] = rest {
-        most = most.max(most_of_files(path, change.files.as_slice()));
-        rest = others;
-    }
-    most
+    let [change, behind @ ..] = changes else {
+        return 0;
+    };
+    most_of_files(path, change.files.as_slice()).max(most_of_changes(path, behind))
 }
 
 /// The most READs that one of the script's files asks for at this path.

@@ -1,9 +1,9 @@
 // The paths of access rules that files bring: an EF_ARR its own, any other file that of the EF_ARR that it names.
-ghost use Rattle.std.specs.Prelude.{◌≡◌, ◌≤◌, length};
+ghost use Rattle.std.specs.Prelude.{◌≡◌, ◌≤◌, ◌++◌, [], length};
 ghost use Rattle.apdu.specs.Words.{path_is_in};
 ghost use Rattle.card_model.specs.Card as card;
 ghost use Rattle.script_generator.specs.Working as spec;
-ghost use Rattle.script_generator.specs.Walked.{paths_left};
+ghost use Rattle.script_generator.specs.Walked.{paths_left, is_left};
 
 use arrayvec::ArrayVec;
 use fcp::ArrRef;
@@ -72,7 +72,7 @@ fn is_own(path: &[u16], file: &FileSpec) -> bool
     is_rule_path(file.path.ids()) && path == file.path.ids()
 }
 
-pub(crate) fn is_named(path: &[u16], file: &FileSpec) -> bool
+fn is_named(path: &[u16], file: &FileSpec) -> bool
     ensures { result ≡ path_is_in (spec.named_path file.now.path file.now.arr) path.now }
 {
     match file.arr {
@@ -81,56 +81,63 @@ pub(crate) fn is_named(path: &[u16], file: &FileSpec) -> bool
     }
 }
 
+#[tactic(auto, using(crate::proofs::Appended::in_file))]
 fn is_brought(path: &[u16], files: &[FileSpec]) -> bool
     ensures { result ≡ path_is_in (spec.rule_paths files.now) path.now }
 {
-    let mut rest = files;
-    while let [file, others @ ..] = rest {
-        if is_own(path, file) || is_named(path, file) {
-            return true;
-        }
-        rest = others;
-    }
-    false
+    let [file, behind @ ..] = files else {
+        return false;
+    };
+    is_own(path, file) || is_named(path, file) || is_brought(path, behind)
 }
 
-fn is_brought_by_cards(path: &[u16], cards: &[CardSpec]) -> bool
-    ensures { result ≡ path_is_in (spec.rule_paths (spec.card_files cards.now)) path.now }
+/// Whether the path comes while these changes are left.
+#[tactic(auto, using(crate::proofs::Appended::left_of_none, crate::proofs::Appended::left_of_change))]
+fn is_left_of_changes(path: &[u16], changes: &[ChangeSpec]) -> bool
+    ensures { result ≡ is_left [] [] changes.now path.now }
 {
-    let mut rest = cards;
-    while let [card, others @ ..] = rest {
-        if is_brought(path, card.files.as_slice()) {
-            return true;
-        }
-        rest = others;
-    }
-    false
+    let [change, behind @ ..] = changes else {
+        return is_family_path(path);
+    };
+    is_brought(path, change.files.as_slice()) || is_left_of_changes(path, behind)
 }
 
-fn is_brought_by_changes(path: &[u16], changes: &[ChangeSpec]) -> bool
-    ensures { result ≡ path_is_in (spec.rule_paths (spec.change_files changes.now)) path.now }
+/// Whether the path comes while these cards and changes are left.
+#[tactic(auto, using(crate::proofs::Appended::left_of_card))]
+fn is_left_of_cards(path: &[u16], cards: &[CardSpec], changes: &[ChangeSpec]) -> bool
+    ensures { result ≡ is_left [] cards.now changes.now path.now }
 {
-    let mut rest = changes;
-    while let [change, others @ ..] = rest {
-        if is_brought(path, change.files.as_slice()) {
-            return true;
-        }
-        rest = others;
-    }
-    false
+    let [card, behind @ ..] = cards else {
+        return is_left_of_changes(path, changes);
+    };
+    is_brought(path, card.files.as_slice()) || is_left_of_cards(path, behind, changes)
 }
 
 /// Whether the path comes while these files, cards and changes are left.
+#[tactic(auto, using(crate::proofs::Appended::left_of_files))]
 pub(crate) fn is_left(
     path: &[u16],
     files: &[FileSpec],
     cards: &[CardSpec],
     changes: &[ChangeSpec],
 ) -> bool
-    ensures { result ≡ path_is_in (paths_left files.now cards.now changes.now) path.now }
+    ensures { result ≡ is_left files.now cards.now changes.now path.now }
 {
-    is_brought(path, files)
-        || is_brought_by_cards(path, cards)
-        || is_brought_by_changes(path, changes)
-        || is_family_path(path)
+    is_brought(path, files) || is_left_of_cards(path, cards, changes)
+}
+
+/// Whether the path of a file comes again, as that of the EF_ARR that it names or behind it.
+#[tactic(auto, using(crate::proofs::Appended::in_appended), unfolding(crate::specs::Walked::is_left))]
+pub(crate) fn comes_again(
+    file: &FileSpec,
+    files: &[FileSpec],
+    cards: &[CardSpec],
+    changes: &[ChangeSpec],
+) -> bool
+    ensures { result ≡ path_is_in
+        (spec.named_path file.now.path file.now.arr
+            ++ paths_left files.now cards.now changes.now) file.now.path }
+{
+    let path = file.path.ids();
+    is_named(path, file) || is_left(path, files, cards, changes)
 }
