@@ -1,5 +1,5 @@
 -- Files behind one another: the most READs of a path, and the paths of access rules.
-use Rattle.std.proofs.Common.{◌≡◌, ℕ, ◌+◌, ◌++◌, max, Bool, ◌||◌, List, [], ◌∷◌, refl, sym, ap, ◌∙◌, append_assoc, arith}
+use Rattle.std.proofs.Common.{◌≡◌, ℕ, ◌+◌, ◌++◌, max, Bool, false, ◌||◌, List, [], ◌∷◌, refl, sym, ap, ◌∙◌, append_assoc, arith}
 use Rattle.std.proofs.lemmas.List.Folds.{list_any-append}
 use Rattle.apdu.specs.Words.{same_bytes, path_is_in}
 use Rattle.script_reader.specs.declared.types.FileSpec.{FileSpec}
@@ -23,6 +23,9 @@ pub most_of_change : (path : List ℕ) (change : ChangeSpec) (changes : List Cha
 most_of_change path change changes = most_appended path change.files (change_files changes)
 
 -- ---- paths
+
+pub or_false : (a b : Bool) → a ≡ false → (a || b) ≡ b
+or_false a b e = rw e refl
 
 rules_appended : (xs ys : List FileSpec) → rule_paths (xs ++ ys) ≡ rule_paths xs ++ rule_paths ys
 rules_appended [] ys = refl

@@ -1,5 +1,5 @@
 -- The work of a script that keeps the rules fits eight bytes.
-use Rattle.std.proofs.Common.{◌≡◌, ℕ, ◌+◌, ◌-◌, ◌*◌, ◌^◌, ◌<◌, ◌≤◌, Bool, true, false, ◌&&◌, ◌++◌, if◌then◌else◌, List, [], ◌∷◌, length, Option, Some, None, refl, arith, inl, inr}
+use Rattle.std.proofs.Common.{◌≡◌, Fits, w64, ℕ, ◌+◌, ◌-◌, ◌*◌, ◌^◌, ◌<◌, ◌≤◌, Bool, true, false, ◌&&◌, ◌++◌, if◌then◌else◌, List, [], ◌∷◌, length, Option, Some, None, refl, arith, inl, inr}
 use Rattle.std.specs.Prelude.{nat_le, nat_eq, count_by}
 use Rattle.std.specs.List.{list_all, sum_by}
 use Rattle.std.proofs.lemmas.Bool.{leb-true, cases_lt}
@@ -196,6 +196,11 @@ reading_few_of s p =
 pub reading_few : (s : Script) → keeps_rules s ≡ true → whole_reading s ≤ 2222325
 reading_few s e = reading_few_of s (parts_of s e)
 
+pub reading_fits : (s : Script) → keeps_rules s ≡ true → whole_reading s < 2 ^ 64
+reading_fits s e =
+    let few = reading_few s e in
+    omega (arith, few)
+
 -- ---- operations
 
 one_kind : (op : Operation) → (if is_edit op then 1 else 0) + (if is_move op then 1 else 0) ≤ 1
@@ -261,6 +266,25 @@ changes_few s e =
     let all = all_few s.actors in
     let faults = faults_few s e in
     omega (arith, few, all, faults)
+
+below : (n : ℕ) → n ≤ 1100 → n < 2 ^ 64
+below n few = omega (arith, few)
+
+pub edits_fit : (s : Script) → keeps_rules s ≡ true → count_all is_edit s.actors < 2 ^ 64
+edits_fit s e =
+    let few = edits_few s e in
+    below (count_all is_edit s.actors) (omega (arith, few))
+
+pub moves_fit : (s : Script) → keeps_rules s ≡ true → count_all is_move s.actors < 2 ^ 64
+moves_fit s e =
+    let few = moves_few s e in
+    below (count_all is_move s.actors) (omega (arith, few))
+
+pub moves_and_faults_fit : (s : Script) → keeps_rules s ≡ true → Fits w64 (count_all is_move s.actors + length s.faults)
+moves_and_faults_fit s e =
+    let few = moves_few s e in
+    let faults = faults_few s e in
+    omega (arith, few, faults)
 
 -- ---- products
 

@@ -1,5 +1,5 @@
 -- What is left of a walk over the files of a script, step by step.
-use Rattle.std.proofs.Common.{◌≡◌, ℕ, ◌+◌, ◌++◌, Bool, true, false, List, [], ◌∷◌, Option, Some, None, refl, sym, ap, ◌∙◌, append_assoc, arith}
+use Rattle.std.proofs.Common.{◌≡◌, ℕ, ◌+◌, ◌^◌, ◌<◌, Fits, w64, ◌++◌, Bool, true, false, List, [], ◌∷◌, Option, Some, None, refl, sym, ap, ◌∙◌, append_assoc, arith}
 use Rattle.apdu.specs.Words.{path_is_in}
 use Rattle.fcp.specs.declared.control.ArrRef.{ArrRef}
 use Rattle.card_model.specs.Card.{rule_file_path}
@@ -66,3 +66,17 @@ change_more s change changes = refl
 pub whole_left : (s : Script) → whole_reading s ≡ reading_left s [] s.cards s.changes
 unfolding whole_reading reading_left
 whole_left s = refl
+
+-- ---- what a sum and what is left come to
+
+pub front_fits : (whole front : ℕ) → whole ≡ front → whole < 2 ^ 64 → front < 2 ^ 64
+front_fits whole front e fits = omega (arith, e, fits)
+
+pub behind_fits : (whole front files behind : ℕ) → whole ≡ front → files + behind ≡ front → whole < 2 ^ 64 → behind < 2 ^ 64
+behind_fits whole front files behind e sum fits = omega (arith, e, sum, fits)
+
+pub both_fit : (whole front files behind others none : ℕ) → whole ≡ front → files + behind ≡ front → others + none ≡ behind → whole < 2 ^ 64 → Fits w64 (files + others)
+both_fit whole front files behind others none e sum more fits = omega (arith, e, sum, more, fits)
+
+pub both_sum : (whole front files behind others none : ℕ) → whole ≡ front → files + behind ≡ front → others + none ≡ behind → files + others + none ≡ whole
+both_sum whole front files behind others none e sum more = omega (arith, e, sum, more)

@@ -67,7 +67,6 @@ fn book_row(alloc: Global, row: u8, draws: &mut Draws) -> Result<Bytes, Memory>
     }
 }
 
-#[tactic(auto, using(crate::proofs::Rows::rows_more, crate::proofs::Rows::behind_more))]
 /// So many rows, numbered from 1.
 pub(crate) fn book_rows(
     alloc: Global,
