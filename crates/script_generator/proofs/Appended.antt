@@ -1,12 +1,12 @@
 -- Files behind one another: the most READs of a path, and the paths of access rules.
-use Rattle.std.proofs.Common.{◌≡◌, ℕ, ◌+◌, ◌++◌, max, Bool, false, ◌||◌, List, [], ◌∷◌, refl, sym, ap, ◌∙◌, append_assoc, arith}
+use Rattle.std.proofs.Common.{◌≡◌, ℕ, ◌++◌, max, Bool, false, ◌||◌, List, [], ◌∷◌, refl, sym, ap, ◌∙◌, append_assoc, arith}
 use Rattle.std.proofs.lemmas.List.Folds.{list_any-append}
 use Rattle.apdu.specs.Words.{same_bytes, path_is_in}
 use Rattle.script_reader.specs.declared.types.FileSpec.{FileSpec}
 use Rattle.script_reader.specs.declared.types.CardSpec.{CardSpec}
 use Rattle.script_reader.specs.declared.types.ChangeSpec.{ChangeSpec}
 use Rattle.script_generator.specs.Working.{most_reads, own_path, named_path, rule_paths, family_paths, card_files, change_files}
-use Rattle.script_generator.specs.Walked.{paths_left, is_left}
+use Rattle.script_generator.specs.Walked.{is_left}
 
 -- ---- the most READs
 

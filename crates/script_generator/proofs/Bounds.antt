@@ -1,7 +1,7 @@
 -- The work of a script that keeps the rules fits eight bytes.
 use Rattle.std.proofs.Common.{◌≡◌, Fits, w64, ℕ, ◌+◌, ◌-◌, ◌*◌, ◌^◌, ◌<◌, ◌≤◌, Bool, true, false, ◌&&◌, ◌++◌, if◌then◌else◌, List, [], ◌∷◌, length, Option, Some, None, refl, arith, inl, inr}
 use Rattle.std.specs.Prelude.{nat_le, nat_eq, count_by}
-use Rattle.std.specs.List.{list_all, sum_by}
+use Rattle.std.specs.List.{list_all}
 use Rattle.std.proofs.lemmas.Bool.{leb-true, cases_lt}
 use Rattle.std.proofs.lemmas.List.{length-append}
 use Rattle.std.proofs.lemmas.List.Folds.{list_all-append}

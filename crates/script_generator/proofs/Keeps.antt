@@ -1,5 +1,5 @@
 -- A generated script keeps every rule.
-use Rattle.std.proofs.Common.{◌≡◌, ℕ, zero, suc, ◌+◌, ◌*◌, ◌%◌, ◌<◌, ◌≤◌, Bool, true, false, ◌&&◌, ◌==◌, List, [], ◌∷◌, ◌++◌, length, replicate, refl, sym, ap, ◌∙◌, arith, add-one, inl, inr}
+use Rattle.std.proofs.Common.{◌≡◌, ℕ, zero, suc, ◌+◌, ◌*◌, ◌%◌, ◌<◌, ◌≤◌, Bool, true, false, ◌&&◌, ◌==◌, List, [], ◌∷◌, ◌++◌, length, replicate, refl, ap, arith, inl, inr}
 use Rattle.std.specs.Prelude.{nat_le}
 use Rattle.std.specs.List.{list_all}
 use Rattle.std.proofs.lemmas.Bool.{le-leb, cases_lt}
@@ -8,7 +8,7 @@ use Rattle.std.proofs.lemmas.List.Folds.{list_all-append}
 use Rattle.script_reader.specs.declared.types.Script.{Script}
 use Rattle.script_reader.specs.Rules.{cards_keep_rules, changes_keep_rules, actors_keep_rules, is_turn, schedule_keeps_rules, faults_keep_rules, budget_keeps_rules, keeps_rules}
 use Rattle.script_generator.specs.Draws.{behind, draw}
-use Rattle.script_generator.specs.Generated.{free_row, name, number, entry_row, is_free, book_row, behind_rows, book_rows, usual_card, turns, schedule, generated}
+use Rattle.script_generator.specs.Generated.{name, number, is_free, book_row, behind_rows, book_rows, usual_card, turns, schedule, generated}
 use Rattle.script_generator.proofs.Names.{one_digit, two_digits, three_digits}
 
 both : (a b : Bool) → a ≡ true → b ≡ true → (a && b) ≡ true
@@ -94,4 +94,4 @@ pub generated_keeps_rules : (seed size : ℕ) → size ≤ 250 → keeps_rules (
 generated_keeps_rules seed size most =
     let s : Script = generated seed size in
     each_part (s.version == 1) (cards_keep_rules s.cards) (changes_keep_rules s.changes) (actors_keep_rules (length s.cards) (length s.changes) s.actors) (schedule_keeps_rules (length s.actors) s.schedule) (faults_keep_rules s.faults) (budget_keeps_rules s.budget)
-      refl (cards_keep (book_rows seed size) (few_rows seed size most) (rows_wide seed size (omega (arith, most)))) refl refl (schedule_keeps (behind_rows seed size) size most) refl refl
+    refl (cards_keep (book_rows seed size) (few_rows seed size most) (rows_wide seed size (omega (arith, most)))) refl refl (schedule_keeps (behind_rows seed size) size most) refl refl

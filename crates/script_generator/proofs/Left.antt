@@ -1,5 +1,5 @@
 -- What is left of a walk over the files of a script, step by step.
-use Rattle.std.proofs.Common.{◌≡◌, ℕ, ◌+◌, ◌^◌, ◌<◌, Fits, w64, ◌++◌, Bool, true, false, List, [], ◌∷◌, Option, Some, None, refl, sym, ap, ◌∙◌, append_assoc, arith}
+use Rattle.std.proofs.Common.{◌≡◌, ℕ, ◌+◌, ◌^◌, ◌<◌, Fits, w64, ◌++◌, true, false, List, [], ◌∷◌, Some, None, refl, ap, ◌∙◌, append_assoc, arith}
 use Rattle.apdu.specs.Words.{path_is_in}
 use Rattle.fcp.specs.declared.control.ArrRef.{ArrRef}
 use Rattle.card_model.specs.Card.{rule_file_path}
@@ -9,7 +9,6 @@ use Rattle.script_reader.specs.declared.types.ChangeSpec.{ChangeSpec}
 use Rattle.script_reader.specs.declared.types.Script.{Script}
 use Rattle.script_generator.specs.Working.{is_rule_path, own_path, named_path, rule_paths, family_paths, card_files, change_files, all_files, most_reads, reading_sum, whole_reading}
 use Rattle.script_generator.specs.Walked.{paths_left, is_left, reading_left, reading_named}
-use Rattle.script_generator.proofs.Appended.{in_appended}
 
 -- ---- the EF_ARR that a file names
 

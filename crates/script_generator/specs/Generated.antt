@@ -1,6 +1,6 @@
 -- A usual run for a seed and a size, for tests and measurements: its shape is this project's own. The card has the files of a USIM,
 -- with a phonebook of so many rows of which the seed decides half, and the seed decides whose turn it is.
-use Rattle.std.specs.Prelude.{ℕ, zero, suc, ◌+◌, ◌*◌, ◌%◌, ◌==◌, Bool, true, false, if◌then◌else◌, List, [], ◌∷◌, ◌++◌, replicate, Option, Some, None, codes, decimal}
+use Rattle.std.specs.Prelude.{ℕ, zero, suc, ◌+◌, ◌*◌, ◌%◌, ◌==◌, Bool, true, false, if◌then◌else◌, List, [], ◌∷◌, ◌++◌, replicate, Some, None, codes, decimal}
 use Rattle.apdu.specs.Words.{filled_to}
 use Rattle.fcp.specs.declared.control.ArrRef.{ArrRef}
 use Rattle.script_reader.specs.declared.types.FileSpec.{FileSpec}

@@ -1,5 +1,5 @@
 -- A worked script, whose work is known.
-use Rattle.std.specs.Prelude.{[], ◌∷◌, None, true, false}
+use Rattle.std.specs.Prelude.{[], ◌∷◌, None, false}
 use Rattle.script_reader.specs.declared.types.Script.{Script}
 use Rattle.script_reader.specs.declared.types.Operation.TheVariants as operation
 use Rattle.script_generator.specs.Generated.{iccid_file}

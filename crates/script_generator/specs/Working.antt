@@ -1,6 +1,6 @@
 -- How many events a run of a script may have, whatever its order of turns and its faults: a bound by the sizes of the script, which
 -- is this project's own.
-use Rattle.std.specs.Prelude.{ℕ, ◌+◌, ◌*◌, ◌/◌, ◌%◌, ◌==◌, Bool, true, false, max, if◌then◌else◌, count_by, List, [], ◌∷◌, ◌++◌, length, Option, Some, None}
+use Rattle.std.specs.Prelude.{ℕ, ◌+◌, ◌*◌, ◌/◌, Bool, true, false, max, if◌then◌else◌, count_by, List, [], ◌∷◌, ◌++◌, length, Option, Some, None}
 use Rattle.apdu.specs.Words.{is_one_of, same_bytes, path_is_in}
 use Rattle.fcp.specs.declared.control.ArrRef.{ArrRef}
 use Rattle.card_model.specs.Card.{last_id, rule_file_path}

@@ -21,10 +21,8 @@ fn is_move(operation: &Operation) -> bool
     ensures { result ≡ spec.is_move operation.now }
 {
     match operation {
-        Operation::Insert { .. }
-        | Operation::Out
-        | Operation::Arm { .. }
-        | Operation::Raw { .. } => true,
+        Operation::Insert { .. } | Operation::Out | Operation::Arm { .. } | Operation::Raw { .. } =>
+            true,
         _ => false,
     }
 }
@@ -32,13 +30,19 @@ fn is_move(operation: &Operation) -> bool
 fn edits_in(operations: &[Operation]) -> usize
     ensures { result ≡ count_by spec.is_edit operations.now }
 {
-    operations.iter().filter(|operation| is_edit(operation)).count()
+    operations
+        .iter()
+        .filter(|operation| is_edit(operation))
+        .count()
 }
 
 fn moves_in(operations: &[Operation]) -> usize
     ensures { result ≡ count_by spec.is_move operations.now }
 {
-    operations.iter().filter(|operation| is_move(operation)).count()
+    operations
+        .iter()
+        .filter(|operation| is_move(operation))
+        .count()
 }
 
 fn edits(actors: &[Operations]) -> u64

@@ -14,9 +14,7 @@ impl Draws {
     pub(crate) fn from_seed(seed: u32) -> Draws
         ensures { result.state ≡ seed }
     {
-        Draws {
-            state: seed as u64,
-        }
+        Draws { state: seed as u64 }
     }
 
     /// The next draw, below 32,768.

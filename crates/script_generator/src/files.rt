@@ -6,7 +6,9 @@ ghost use Rattle.script_generator.specs.Generated as spec;
 use apdu::{Bytes, Memory, Path, Sequence};
 use card_model::AidList;
 use fcp::ArrRef;
-use script_reader::{CardSpec, ChangeSpec, FileSpec, FileSpecs, KeySpec, KeySpecs, KindSpec, RowSpecs};
+use script_reader::{
+    CardSpec, ChangeSpec, FileSpec, FileSpecs, KeySpec, KeySpecs, KindSpec, RowSpecs,
+};
 use std::alloc::Global;
 
 /// 1234, filled with FF.

@@ -13,7 +13,7 @@ pub fn draws_of_one()
     ensures third { draw 1 3 ≡ 10113 }
     ensures row { slice_get (book_rows 1 1) 0
         ≡ Some ((0x50 ∷ 0x31 ∷ []) ++ replicate 12 0xFF ++ (6 ∷ 0x81 ∷ 0x38 ∷ 0x15 ∷ 0x07 ∷ 0x29 ∷ 0x96 ∷ [])
-            ++ replicate 7 0xFF) }
+        ++ replicate 7 0xFF) }
 {}
 
 /// The work of the script of one load.

@@ -56,12 +56,7 @@ fn own_sum(
 }
 
 /// What some files add, before these cards and changes.
-fn files_sum(
-    script: &Script,
-    files: &[FileSpec],
-    cards: &[CardSpec],
-    changes: &[ChangeSpec],
-) -> u64
+fn files_sum(script: &Script, files: &[FileSpec], cards: &[CardSpec], changes: &[ChangeSpec]) -> u64
     requires { reading_left script.now files.now cards.now changes.now < 2 ^ 64 }
     ensures { result + reading_left script.now [] cards.now changes.now
         ≡ reading_left script.now files.now cards.now changes.now }

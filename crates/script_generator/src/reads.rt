@@ -60,6 +60,8 @@ fn most_of_changes(path: &[u16], changes: &[ChangeSpec]) -> usize
 pub(crate) fn most_reads(path: &[u16], script: &Script) -> usize
     ensures { result ≡ spec.most_reads path.now (spec.all_files script.now) }
 {
-    most_of_cards(path, script.cards.as_slice())
-        .max(most_of_changes(path, script.changes.as_slice()))
+    most_of_cards(path, script.cards.as_slice()).max(most_of_changes(
+        path,
+        script.changes.as_slice(),
+    ))
 }

@@ -136,7 +136,7 @@ pub(crate) fn comes_again(
 ) -> bool
     ensures { result ≡ path_is_in
         (spec.named_path file.now.path file.now.arr
-            ++ paths_left files.now cards.now changes.now) file.now.path }
+        ++ paths_left files.now cards.now changes.now) file.now.path }
 {
     let path = file.path.ids();
     is_named(path, file) || is_left(path, files, cards, changes)

@@ -6,7 +6,9 @@ use crate::book::book_rows;
 use crate::draws::Draws;
 use crate::files::{PIN, usual_card, usual_change};
 use apdu::{Memory, Sequence, Text};
-use script_reader::{ActorNumbers, ActorSpecs, CardSpecs, ChangeSpecs, Operation, Operations, Script};
+use script_reader::{
+    ActorNumbers, ActorSpecs, CardSpecs, ChangeSpecs, Operation, Operations, Script,
+};
 use std::alloc::Global;
 
 const RECORDS: u8 = 0;

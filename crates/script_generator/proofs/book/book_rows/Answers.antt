@@ -1,4 +1,4 @@
-use Rattle.std.proofs.Common.{◌≡◌, sym}
+use Rattle.std.proofs.Common.{sym}
 use Rattle.script_generator.proofs.Rows.{rows_more, behind_more}
 use Rattle.script_generator.proofs.book.book_rows.Goals as goal
 

@@ -1,4 +1,4 @@
-use Rattle.std.proofs.Common.{◌≡◌, refl}
+use Rattle.std.proofs.Common.{refl}
 use Rattle.script_generator.proofs.book.entry_row.Goals as goal
 
 pub returns-clause-value : goal.returns-clause-value

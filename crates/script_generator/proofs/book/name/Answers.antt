@@ -1,4 +1,4 @@
-use Rattle.std.proofs.Common.{◌≡◌, sym, refl, arith, ◌∙◌}
+use Rattle.std.proofs.Common.{sym, arith}
 use Rattle.script_generator.proofs.Names.{one_digit, two_digits, three_digits}
 use Rattle.script_generator.proofs.book.name.Goals as goal
 

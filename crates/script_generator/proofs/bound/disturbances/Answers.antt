@@ -1,4 +1,4 @@
-use Rattle.std.proofs.Common.{◌≡◌, refl}
+use Rattle.std.proofs.Common.{refl}
 use Rattle.script_generator.specs.Working.{disturbances_of}
 use Rattle.script_generator.proofs.Bounds.{edits_fit, moves_fit, moves_and_faults_fit, changes_few}
 use Rattle.script_generator.proofs.bound.disturbances.Goals as goal

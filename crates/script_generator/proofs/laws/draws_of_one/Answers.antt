@@ -1,4 +1,4 @@
-use Rattle.std.proofs.Common.{◌≡◌, refl, lit<}
+use Rattle.std.proofs.Common.{refl, lit<}
 use Rattle.std.proofs.lemmas.Fmt.{decimal_digit}
 use Rattle.script_generator.proofs.laws.draws_of_one.Goals as goal
 

@@ -1,4 +1,4 @@
-use Rattle.std.proofs.Common.{◌≡◌, ◌-◌, ◌<◌, [], List, length, take, drop, ap, ◌∙◌, rules, arith}
+use Rattle.std.proofs.Common.{◌-◌, [], List, length, take, drop, ap, ◌∙◌, rules}
 use Rattle.script_reader.specs.declared.types.CardSpec.{CardSpec}
 use Rattle.script_generator.specs.Walked.{reading_left}
 use Rattle.script_generator.proofs.Slices.{cons_of}

@@ -1,4 +1,4 @@
-use Rattle.std.proofs.Common.{◌≡◌, ◌-◌, List, length, take, drop, ap}
+use Rattle.std.proofs.Common.{◌-◌, List, length, take, drop, ap}
 use Rattle.script_reader.specs.declared.types.CardSpec.{CardSpec}
 use Rattle.script_generator.specs.Working.{most_reads, card_files}
 use Rattle.script_generator.proofs.Slices.{cons_of}

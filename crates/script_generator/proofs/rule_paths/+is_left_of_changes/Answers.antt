@@ -1,4 +1,4 @@
-use Rattle.std.proofs.Common.{◌≡◌, ◌-◌, [], List, length, take, drop, ap, sym, ◌∙◌}
+use Rattle.std.proofs.Common.{◌-◌, [], List, length, take, drop, ap, sym, ◌∙◌}
 use Rattle.apdu.specs.Words.{path_is_in}
 use Rattle.script_reader.specs.declared.types.FileSpec.{FileSpec}
 use Rattle.script_reader.specs.declared.types.ChangeSpec.{ChangeSpec}

@@ -1,4 +1,4 @@
-use Rattle.std.proofs.Common.{◌≡◌, refl}
+use Rattle.std.proofs.Common.{refl}
 use Rattle.script_generator.proofs.draws.Draws.number.Goals as goal
 
 pub returns-clause-state : goal.returns-clause-state
