@@ -123,10 +123,7 @@ fn ending_of_sizes(alloc: Global, seed: u32, size: u16) -> Ending
 }
 
 /// How a replay ends.
-fn ending_of_source<S: Source, K: Sink>(
-    alloc: Global,
-    streams: &mut Streams<S, K>,
-) -> Ending
+fn ending_of_source<S: Source, K: Sink>(alloc: Global, streams: &mut Streams<S, K>) -> Ending
     ensures due { IsDueOfSource streams.old.source streams.new.source result }
     ensures sink { streams.new.sink ≡ streams.old.sink }
 {
