@@ -102,7 +102,7 @@ fn work_by(reading: u64, operations: u64, disturbed: u64) -> u64
     (8 * reading + 32) * (operations + disturbed + 2) * (disturbed + 1)
 }
 
-/// The most events that a run of the script may have. It takes no memory.
+/// A bound for the events of a run, by the sizes of the script. It takes no memory.
 pub fn work(script: &Script) -> u64
     requires { keeps_rules script.now ≡ true }
     ensures { result ≡ spec.work script.now }
