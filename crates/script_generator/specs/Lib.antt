@@ -1,0 +1,5 @@
+pub mod Draws
+pub mod Generated
+pub mod Working
+pub mod Walked
+pub mod Samples
