@@ -59,3 +59,5 @@ pub mod LastChange
 pub mod FreeNext
 pub mod FreePairs
 pub mod FreeReferences
+pub mod EpochLives
+pub mod EpochFetch
