@@ -94,11 +94,14 @@ raw_undone handle (Some x) ins other h = undone_if (is_raw_ins ins) (with_ended 
 
 answer_undone : (k : Kept) (actor : ℕ) (job : Job) (b : Begun) (op : Operation) → is_served op ≡ true → Undone (answer_of k actor job b op)
 answer_undone k actor job b (operation.Insert card) h = moved_undone k.turn.happened
+answer_undone k actor job b operation.Out h = moved_undone k.turn.happened
+answer_undone k actor job b (operation.Arm change) h = moved_undone k.turn.happened
 answer_undone k actor job b (operation.Load f) h = card_undone b.epoch b (or_else (loaded k.turn.published) (outcome_answer k.turn)) (else_undone (loaded k.turn.published) (outcome_answer k.turn) (loaded_undone k.turn.published) (came_undone k.turn.outcome))
 answer_undone k actor job b (operation.OpenChannel handle aid) h = card_undone b.epoch b (outcome_answer k.turn) (came_undone k.turn.outcome)
 answer_undone k actor job b (operation.Raw handle apdu) h = raw_undone handle (handle_of actor handle k.handles) apdu.ins (outcome_answer k.turn) (came_undone k.turn.outcome)
 answer_undone k actor job b (operation.Close handle) h = handle_undone handle (handle_of actor handle k.handles) (outcome_answer k.turn) (came_undone k.turn.outcome)
 answer_undone k actor job b (operation.Verify key pin) h = card_undone b.epoch b (outcome_answer k.turn) (came_undone k.turn.outcome)
+answer_undone k actor job b operation.Poll h = card_undone b.epoch b (outcome_answer k.turn) (came_undone k.turn.outcome)
 answer_undone k actor job b (operation.End key) h = undone_if (has_session actor key k.sessions) (Some answer.Ended) (Some (answer.NotHeldKey key)) refl refl
 answer_undone k actor job b operation.Look h = refl
 answer_undone k actor job b op h = absurd (true≢false (sym h))

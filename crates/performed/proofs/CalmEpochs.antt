@@ -153,6 +153,7 @@ first_opens alive handles actor (Some (operation.OpenChannel handle aid)) h = re
 first_opens alive handles actor (Some (operation.Raw handle apdu)) h = absurd (raw_other manage_channel_ins apdu.ins refl h.allowed (ap (λ (c : CommandValue). c.ins == manage_channel_ins) (sym h.is)))
 first_opens alive handles actor (Some (operation.Close handle)) h = absurd (true≢false (ap (λ (c : CommandValue). c.p1 == 0) h.is))
 first_opens alive handles actor (Some (operation.Verify key pin)) h = absurd (true≢false (ap (λ (c : CommandValue). c.ins == verify_ins) (sym h)))
+first_opens alive handles actor (Some operation.Poll) h = absurd (true≢false (ap (λ (c : CommandValue). c.ins == manage_channel_ins) h))
 first_opens alive handles actor (Some op) h = absurd h
 
 -- the turn's command is that of an open

@@ -9,7 +9,6 @@ use Rattle.script_reader.specs.declared.types.Operation.{Operation}
 use Rattle.script_reader.specs.declared.types.Operation.TheVariants as operation
 use Rattle.report.specs.declared.line.Line.TheVariants as line
 use Rattle.link.specs.declared.chain.Chain.{Chain}
-use Rattle.epoch_cache.specs.Past.{is_insertion}
 use Rattle.channels.specs.Channels.{on_channel, open_command, close_command, select_application}
 use Rattle.rules.specs.declared.holdings.Handle.{Handle}
 use Rattle.rules.specs.declared.kept.Kept.{Kept}
@@ -20,6 +19,7 @@ use Rattle.rules.specs.declared.kept.Work.TheVariants.{Rests as rests, Refuses a
 use Rattle.rules.specs.Kept.{operation_now}
 use Rattle.rules.specs.Channels.{handle_of, is_raw_ins}
 use Rattle.rules.specs.Sessions.{verify_command}
+use Rattle.rules.specs.Work.{status_command}
 use Rattle.rules.specs.After.{is_raw}
 use Rattle.rules.specs.Rules.{turn_operation}
 use Rattle.performed.specs.Followed.{is_followed}
@@ -71,6 +71,7 @@ SendsFirst alive handles actor (Some (operation.OpenChannel handle aid)) c = c �
 SendsFirst alive handles actor (Some (operation.Raw handle apdu)) c = IsRawOn alive handles actor handle apdu c
 SendsFirst alive handles actor (Some (operation.Close handle)) c = IsCloseOf alive handles actor handle c
 SendsFirst alive handles actor (Some (operation.Verify key pin)) c = c ≡ verify_command key pin
+SendsFirst alive handles actor (Some operation.Poll) c = c ≡ status_command
 SendsFirst alive handles actor (Some op) c = ⊥
 
 -- the framework and loads read
@@ -87,7 +88,7 @@ WorkFits alive handles actor op rests = Unit {0}
 WorkFits alive handles actor op (refuses r) = Unit {0}
 WorkFits alive handles actor op (lacks key) = Unit {0}
 WorkFits alive handles actor op resets = Unit {0}
-WorkFits alive handles actor op (happens e) = is_insertion e ≡ true
+WorkFits alive handles actor op (happens e) = Unit {0}
 
 -- ---- a command behind another
 

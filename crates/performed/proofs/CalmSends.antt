@@ -1,5 +1,5 @@
 -- What a served turn sends fits its operation: an UPDATE is an application's, a MANAGE CHANNEL an open's or a close's, a VERIFY a
--- verification's; and an event that it tries is an insertion.
+-- verification's.
 use Rattle.std.proofs.Common.{◌≡◌, ◌⊎◌, inl, inr, ℕ, zero, suc, ◌==◌, ◌&&◌, not, Bool, true, false, if◌then◌else◌, Option, Some, None, List, [], ◌∷◌, ◌+◌, ◌%◌, length, refl, ap, sym, ◌∙◌, subst, true≢false, ◌-◌}
 use Rattle.std.specs.Prelude.{slice_get, unwrap_or, option_map, option_and_then, nat_lt}
 use Rattle.std.specs.List.{list_all}
@@ -23,7 +23,6 @@ use Rattle.families.specs.Families.{family_paths}
 use Rattle.link.specs.declared.chain.Chain.{Chain}
 use Rattle.link.specs.declared.chain.Final.{Final}
 use Rattle.link.specs.Commands.{get_response_for, follow_up, asks_more, chain_count, chain_first, final_after, select_only, is_at, most_exchanges}
-use Rattle.epoch_cache.specs.Past.{is_insertion}
 use Rattle.card_effects.proofs.Same.{same_bytes_is}
 use Rattle.epoch_cache.specs.declared.cached.CachedFile.{CachedFile}
 use Rattle.epoch_cache.specs.Cache.{first_missing, asks_reset, handed_refresh}
@@ -47,7 +46,7 @@ use Rattle.rules.specs.History.{lives_in, is_living}
 use Rattle.rules.specs.Channels.{held_numbers, handle_of, is_living_handle, is_raw_ins}
 use Rattle.rules.specs.Kept.{operations_of, operation_at, begun_of, begun_operation, operation_now, job_of, actor_count, change_at}
 use Rattle.rules.specs.Standing.{first_stale}
-use Rattle.rules.specs.Work.{is_starting, read_stale, first_item, framework_work, reads_first, work_of_operation, if_living, living_handle, sends_raw, sends_close}
+use Rattle.rules.specs.Work.{is_starting, read_stale, first_item, framework_work, reads_first, status_command, work_of_operation, if_living, living_handle, sends_raw, sends_close}
 use Rattle.rules.specs.After.{is_raw, next_or_over, stage_of_sent, stage_after, opened_behind, turn_answered, decision_of_begun, decision_at, fresh_begun, facts_of, refused_of, jobs_beside, jobs_of_actor, kept_after, kept_of, stage_of_open, job_beside, own_job, begun_exchanged, begun_with, begun_beside, edit_of}
 use Rattle.rules.specs.Due.{first_command, first_of_turn, command_by_stage, command_by_chain, due_command, event_of, event_by_stage, due}
 use Rattle.rules.specs.Rules.{is_turn_of, same_event, turn_operation, operation_in_turn}
@@ -263,6 +262,7 @@ module _ (s : Script) (k : Kept) (c first : CommandValue) (form : IsForm c first
   kind_first (Some (operation.Raw handle apdu)) e stage opened h = application handle apdu first e h form
   kind_first (Some (operation.Close handle)) e stage opened h = closes handle h.on e stage h.held (form_of (close_command h.on.number) h.is)
   kind_first (Some (operation.Verify key pin)) e stage opened h = verifies key pin e stage (verify_itself key pin (form_of (verify_command key pin) h))
+  kind_first (Some operation.Poll) e stage opened h = form_calm (ap (λ (x : CommandValue). is_calm x.ins) h)
   kind_first (Some op) e stage opened h = absurd h
 
   kind_behind : (handle : ℕ) (aid : List ℕ) → turn_operation s k ≡ Some (operation.OpenChannel handle aid) → k.turn.stage ≡ next first → (number : ℕ) → k.turn.opened ≡ Some number → (first ≡ select_application number aid) ⊎ (first ≡ close_command number) → Kind s k c
@@ -302,46 +302,6 @@ exchange_kind s k a c r t h = kind_of s k c t (exchange_of_turn s k a c r t h)
 
 pub failed_kind : FailedKind
 failed_kind s k a c acted t h = kind_of s k c t (failed_of_turn s k a c acted t h)
-
--- ---- events of the world
-
-abbrev Inserts : Option WorldEvent → Type 0
-Inserts None = Unit {0}
-Inserts (Some e) = is_insertion e ≡ true
-
-module _ (alive : ℕ → Bool) (handles : List Handle) (actor : Option ℕ) (op : Option Operation) where
-  event_fits : (work : Work) → WorkFits alive handles actor op work → Inserts (event_of work)
-  event_fits (happens e) h = h
-  event_fits (sends c) h = tt
-  event_fits (reads path) h = tt
-  event_fits writes h = tt
-  event_fits rests h = tt
-  event_fits (refuses r) h = tt
-  event_fits (lacks key) h = tt
-  event_fits resets h = tt
-
-  tried_by : (opened : Option ℕ) (work : Work) (stage : Stage) → Fits alive handles actor op opened work stage → Inserts (event_by_stage work stage)
-  tried_by opened work fresh h = event_fits work h.1
-  tried_by opened work (next c) h = tt
-  tried_by opened work resetting h = tt
-  tried_by opened work over h = tt
-
-same_insertion : (e x : WorldEvent) → is_insertion x ≡ true → same_event e x ≡ true → is_insertion e ≡ true
-same_insertion (Insert j) x i h = refl
-same_insertion Out (Insert k) i h = absurd (true≢false (sym h))
-same_insertion Out Out i h = i
-same_insertion Out (Arm k) i h = i
-same_insertion (Arm j) (Insert k) i h = absurd (true≢false (sym h))
-same_insertion (Arm j) Out i h = i
-same_insertion (Arm j) (Arm k) i h = i
-
-tried_insertion : (s : Script) (k : Kept) (e : WorldEvent) (d : Due) → Sends s k → due s k ≡ d → is_tried e d ≡ true → is_insertion e ≡ true
-tried_insertion s k e (try_event x) t due_is h = same_insertion e x (subst Inserts (stands_of s k (try_event x) due_is) (tried_by (is_living k.history) k.handles k.turn.actor (turn_operation s k) k.turn.opened k.turn.work k.turn.stage t.fits)) h
-tried_insertion s k e d t due_is h = absurd (true≢false (sym h))
-
--- an event that follows is an insertion
-pub world_insertion : (s : Script) (k : Kept) (a : ℕ) (e : WorldEvent) → Sends s k → is_followed s k (line.World a e) ≡ true → is_insertion e ≡ true
-world_insertion s k a e t h = tried_insertion s k e (due s k) t refl (and_parts (is_turn_of a k.turn) (is_tried e (due s k)) h).1
 
 -- ---- what a turn decides
 
@@ -392,12 +352,15 @@ module _ (k : Kept) (actor : ℕ) (b : Begun) where
   while_living op work h = work_if (is_living k.history) k.handles (Some actor) (Some op) (lives_in k.history b.epoch) work rests h tt
 
   operation_fits : (op : Operation) → is_served op ≡ true → WorkFits (is_living k.history) k.handles (Some actor) (Some op) (work_of_operation k actor b op).work
-  operation_fits (operation.Insert card) h = refl
+  operation_fits (operation.Insert card) h = tt
+  operation_fits operation.Out h = tt
+  operation_fits (operation.Arm change) h = tt
   operation_fits (operation.Load f) h = while_living (operation.Load f) (reads_first k.files (family_paths f)) (reads_first_fit (is_living k.history) k.handles (Some actor) (Some (operation.Load f)) k.files (family_paths f) tt)
   operation_fits (operation.OpenChannel handle aid) h = while_living (operation.OpenChannel handle aid) (sends open_command) refl
   operation_fits (operation.Raw handle apdu) h = raw_fits k actor handle apdu (handle_of actor handle k.handles) refl
   operation_fits (operation.Close handle) h = close_fits k actor handle (handle_of actor handle k.handles) refl
   operation_fits (operation.Verify key pin) h = while_living (operation.Verify key pin) (sends (verify_command key pin)) refl
+  operation_fits operation.Poll h = while_living operation.Poll (sends status_command) refl
   operation_fits (operation.End key) h = tt
   operation_fits operation.Look h = tt
   operation_fits op h = absurd (true≢false (sym h))
@@ -480,10 +443,13 @@ module _ (handle : ℕ) (aid : List ℕ) where
 sent_by_next : (op : Operation) (opened : Option ℕ) (refresh : Option ProactiveValue) (f : Final) → is_served op ≡ true → NextFits opened (Some op) (stage_of_sent (Some op) opened refresh f)
 sent_by_next (operation.OpenChannel handle aid) opened refresh f h = open_next handle aid opened f
 sent_by_next (operation.Insert card) opened refresh f h = tt
+sent_by_next operation.Out opened refresh f h = tt
+sent_by_next (operation.Arm change) opened refresh f h = tt
 sent_by_next (operation.Load g) opened refresh f h = tt
 sent_by_next (operation.Raw handle apdu) opened refresh f h = tt
 sent_by_next (operation.Close handle) opened refresh f h = tt
 sent_by_next (operation.Verify key pin) opened refresh f h = tt
+sent_by_next operation.Poll opened refresh f h = tt
 sent_by_next (operation.End key) opened refresh f h = tt
 sent_by_next operation.Look opened refresh f h = tt
 sent_by_next op opened refresh f h = absurd (true≢false (sym h))

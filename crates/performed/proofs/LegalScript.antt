@@ -114,11 +114,14 @@ if_none false o h = h
 
 family_of_op : (b : Begun) (op : Operation) → is_served op ≡ true → has_form op ≡ true → is_family_or_none (family_of_operation b op) ≡ true
 family_of_op b (operation.Insert card) served form = refl
+family_of_op b operation.Out served form = refl
+family_of_op b (operation.Arm change) served form = refl
 family_of_op b (operation.Load f) served form = below_three f form
 family_of_op b (operation.OpenChannel handle aid) served form = refl
 family_of_op b (operation.Raw handle apdu) served form = refl
 family_of_op b (operation.Close handle) served form = refl
 family_of_op b (operation.Verify key pin) served form = refl
+family_of_op b operation.Poll served form = refl
 family_of_op b (operation.End key) served form = refl
 family_of_op b operation.Look served form = refl
 family_of_op b op served form = absurd (true≢false (sym served))

@@ -9,7 +9,6 @@ pub mod TurnsLoad
 pub mod TurnsMove
 pub mod OperationsKept
 pub mod WantedFamilies
-pub mod LegalWorld
 pub mod LegalDue
 pub mod LegalScript
 pub mod LegalResets
@@ -25,7 +24,6 @@ pub mod MeasureNumbers
 pub mod Measure
 pub mod CalmLent
 pub mod CalmSends
-pub mod CalmArmed
 pub mod CalmManage
 pub mod CalmHeld
 pub mod CalmMatch
@@ -54,10 +52,10 @@ pub mod CalmEdits
 pub mod CalmEpochs
 pub mod CalmGiven
 pub mod CalmVerify
-pub mod CalmShown
 pub mod LastChange
 pub mod FreeNext
 pub mod FreePairs
 pub mod FreeReferences
 pub mod EpochLives
 pub mod EpochFetch
+pub mod EpochWorld

@@ -1,4 +1,5 @@
--- The scripts that are served so far: insertions, loads and looks, channels with the commands on them, and PIN sessions; without faults.
+-- The scripts that are served so far: insertions, removals and armed changes, loads and looks, channels with the commands on them, polls, and
+-- PIN sessions; without faults.
 use Rattle.std.specs.Prelude.{◌&&◌, Bool, true, false}
 use Rattle.std.specs.List.{list_all}
 use Rattle.apdu.specs.Words.{is_empty}
@@ -8,11 +9,14 @@ use Rattle.script_reader.specs.declared.types.Operation.TheVariants as operation
 
 abbrev pub is_served : Operation → Bool
 is_served (operation.Insert card) = true
+is_served operation.Out = true
+is_served (operation.Arm change) = true
 is_served (operation.Load f) = true
 is_served (operation.OpenChannel handle aid) = true
 is_served (operation.Raw handle apdu) = true
 is_served (operation.Close handle) = true
 is_served (operation.Verify key pin) = true
+is_served operation.Poll = true
 is_served (operation.End key) = true
 is_served operation.Look = true
 is_served op = false
