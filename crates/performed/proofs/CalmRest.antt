@@ -29,7 +29,7 @@ use Rattle.rules.specs.declared.kept.Kept.{Kept}
 use Rattle.rules.specs.declared.standing.Standing.{Standing}
 use Rattle.rules.specs.LookingBack.{is_wanted}
 use Rattle.rules.specs.Standing.{first_standing, settled_by, unless_settled, latest, shown_behind, standing_by, standing_after, refused_in, is_stale, first_stale}
-use Rattle.rules.specs.After.{is_raw_line, facts_of, refused_of, jobs_beside, family_begun, kept_of}
+use Rattle.rules.specs.After.{is_raw, is_raw_line, facts_of, refused_of, jobs_beside, family_begun, kept_of}
 use Rattle.rules.specs.Due.{due, kept_text}
 use Rattle.rules.specs.Performed.{ends_turn, is_published}
 use Rattle.rules.specs.Work.{has_begun, has_work, has_work_alive, is_quiet, is_starting}
@@ -42,7 +42,8 @@ use Rattle.performed.specs.Served.{serves}
 use Rattle.performed.specs.Followed.{is_followed, are_followed}
 use Rattle.performed.specs.Told.{is_told, are_told}
 use Rattle.performed.proofs.CalmLent.{state_world, state_kept, state_texts}
-use Rattle.performed.proofs.CalmSends.{exchange_update, world_insertion, sends_of}
+use Rattle.performed.proofs.CalmSends.{exchange_update, world_insertion}
+use Rattle.performed.proofs.CalmLines.{sends_of, turn_is, raw_alone}
 use Rattle.performed.proofs.CalmCards.{dead, insert_empty}
 use Rattle.performed.proofs.LegalWorld.{lives_inside}
 use Rattle.performed.proofs.TurnsKept.{quiet_touch}
@@ -322,7 +323,7 @@ module _ (shows : ShowsCard) (s : Script) (earlier : List Line) (rules : keeps_r
   exchange_by a c r h right false e = same_board (line.Exchange a c r) (λ f x. refl) (λ f o. refl) (λ i. step_inside before a c r right) (λ f. step_shown before a c r f (unarmed_of s earlier served followed) e right)
   exchange_by a c r h right true e =
       let update : is_update_ins c.ins ≡ true = (and_parts (is_update_ins c.ins) (is_success r.sw) e).0 in
-      renewed_board (line.Exchange a c r) (λ f o. refl) (λ i. step_inside before a c r right) (λ path. raw_renews (is_raw_line s (line.Exchange a c r) kept.jobs) kept.selected c r path e (exchange_update s kept a c r (sends_of s earlier served followed) h update)) (λ f. changed_upto s f (line.Exchange a c r ∷ earlier))
+      renewed_board (line.Exchange a c r) (λ f o. refl) (λ i. step_inside before a c r right) (λ path. raw_renews (is_raw_line s (line.Exchange a c r) kept.jobs) kept.selected c r path e (sym (ap (has_value is_raw) (turn_is s kept a c r h)) ∙ raw_alone s kept c served (exchange_update s kept a c r (sends_of s earlier served followed) h update))) (λ f. changed_upto s f (line.Exchange a c r ∷ earlier))
 
   event_by : (a : ℕ) (e : WorldEvent) → is_insertion e ≡ true → is_none (refusal_of before e) ≡ true → Behind (line.World a e)
   event_by a (Insert j) i untold = renewed_board (line.World a (Insert j)) (λ f o. refl) (λ inside. dead (sym (insert_empty before j untold) ∙ inside)) (λ path. refl) (λ f. changed_upto s f (line.World a (Insert j) ∷ earlier))

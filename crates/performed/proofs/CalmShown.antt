@@ -36,7 +36,8 @@ use Rattle.performed.specs.Followed.{is_followed, are_followed}
 use Rattle.performed.specs.Told.{is_told}
 use Rattle.performed.proofs.CalmLent.{get_set, steps_card, card_there}
 use Rattle.performed.proofs.CalmKinds.{Sends}
-use Rattle.performed.proofs.CalmSends.{world_insertion, sends_of}
+use Rattle.performed.proofs.CalmSends.{world_insertion}
+use Rattle.performed.proofs.CalmLines.{sends_of}
 use Rattle.performed.proofs.CalmArmed.{stays_unarmed}
 use Rattle.performed.proofs.CalmCards.{dead}
 

@@ -25,6 +25,7 @@ pub mod MeasureNumbers
 pub mod Measure
 pub mod CalmLent
 pub mod CalmSends
+pub mod CalmLines
 pub mod CalmArmed
 pub mod CalmManage
 pub mod CalmHeld
