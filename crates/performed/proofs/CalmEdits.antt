@@ -33,7 +33,8 @@ use Rattle.performed.proofs.CalmLent.{given_of}
 use Rattle.performed.proofs.CalmKinds.{Sends}
 use Rattle.rules.specs.declared.holdings.Handle.{Handle}
 use Rattle.rules.specs.Sessions.{has_session}
-use Rattle.performed.proofs.CalmSends.{ServedOp, served_now, exchange_kind, failed_kind, kind_update, sends_of}
+use Rattle.performed.proofs.CalmSends.{ServedOp, served_now, exchange_kind, failed_kind, kind_update}
+use Rattle.performed.proofs.CalmLines.{sends_of, raw_alone}
 
 -- ---- answers
 
@@ -141,8 +142,8 @@ answered_edit s w k a i (answer.Done n published left) served h = absurd (done_n
 answered_edit s w k a i given served h = refl
 
 line_edit : (s : Script) (w : World) (k : Kept) (l : Line) → serves s ≡ true → Sends s k → is_followed s k l ≡ true → has_right_edit s w k l ≡ true
-line_edit s w k (line.Exchange a c r) served t h = edit_by (is_update_ins c.ins) (has_value is_raw (turn_operation s k)) (is_update_right s w k c r) (kind_update s k c (exchange_kind s k a c r t h))
-line_edit s w k (line.Failed a c d) served t h = edit_by (is_update_ins c.ins) (has_value is_raw (turn_operation s k)) (is_lost_update_right s w (world_failed w c d) k c) (kind_update s k c (failed_kind s k a c d t h))
+line_edit s w k (line.Exchange a c r) served t h = edit_by (is_update_ins c.ins) (has_value is_raw (turn_operation s k)) (is_update_right s w k c r) (λ u. raw_alone s k c served (kind_update s k c (exchange_kind s k a c r t h) u))
+line_edit s w k (line.Failed a c d) served t h = edit_by (is_update_ins c.ins) (has_value is_raw (turn_operation s k)) (is_lost_update_right s w (world_failed w c d) k c) (λ u. raw_alone s k c served (kind_update s k c (failed_kind s k a c d t h) u))
 line_edit s w k (line.Answered a i given) served t h = answered_edit s w k a i given served h
 line_edit s w k (line.Turn a) served t h = refl
 line_edit s w k (line.Begin a i) served t h = refl

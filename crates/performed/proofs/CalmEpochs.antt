@@ -42,7 +42,8 @@ use Rattle.performed.specs.Followed.{is_tried, is_followed, are_followed}
 use Rattle.performed.proofs.CalmBehind.{actor_is, none_of_framework}
 use Rattle.performed.proofs.CalmKinds.{SendsFirst, WorkFits, Sends}
 use Rattle.performed.proofs.CalmOps.{same_operation}
-use Rattle.performed.proofs.CalmSends.{raw_other, sends_of, turn_by, exchanged_actor}
+use Rattle.performed.proofs.CalmSends.{raw_other}
+use Rattle.performed.proofs.CalmLines.{sends_of, turn_by, exchanged_actor}
 use Rattle.performed.proofs.CalmState.{OpensAlive}
 use Rattle.performed.proofs.LegalResets.{CalmTurn, turn_calm, resets_framework}
 use Rattle.performed.proofs.MeasureSays.{stands_of}

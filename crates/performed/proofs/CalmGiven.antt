@@ -15,7 +15,8 @@ use Rattle.performed.proofs.CalmCards.{GivenOf}
 use Rattle.performed.proofs.CalmEpochs.{alive_of}
 use Rattle.performed.proofs.CalmKinds.{Sends, Manages, by_open, by_refusal, by_close}
 use Rattle.performed.proofs.CalmKnown.{is_channel_op}
-use Rattle.performed.proofs.CalmSends.{exchange_manages, sends_of}
+use Rattle.performed.proofs.CalmSends.{exchange_manages}
+use Rattle.performed.proofs.CalmLines.{sends_of}
 use Rattle.performed.proofs.FreeReferences.{free_of}
 
 -- a MANAGE CHANNEL is that of an open or a close

@@ -37,7 +37,7 @@ use Rattle.rules.specs.declared.kept.Work.{Work}
 use Rattle.rules.specs.declared.standing.Standing.{Standing}
 use Rattle.rules.specs.LookingBack.{is_wanted}
 use Rattle.rules.specs.Standing.{first_standing, settled_by, unless_settled, latest, shown_behind, standing_by, standing_after, refused_in, is_stale, first_stale}
-use Rattle.rules.specs.After.{is_raw_line, facts_of, refused_of, jobs_beside, family_begun, kept_after, kept_of}
+use Rattle.rules.specs.After.{is_raw, is_raw_line, facts_of, refused_of, jobs_beside, family_begun, kept_after, kept_of}
 use Rattle.rules.specs.Kept.{actor_count, begun_of}
 use Rattle.rules.specs.Due.{due, is_reset_due, kept_text, reset_by_stage}
 use Rattle.rules.specs.Performed.{ends_turn, is_published}
@@ -51,7 +51,8 @@ use Rattle.performed.specs.Served.{serves}
 use Rattle.performed.specs.Followed.{is_given_or_refused, is_tried, is_followed, are_followed}
 use Rattle.performed.specs.Told.{is_told, are_told}
 use Rattle.performed.proofs.CalmLent.{state_world, state_kept, state_texts}
-use Rattle.performed.proofs.CalmSends.{exchange_update, sends_of}
+use Rattle.performed.proofs.CalmSends.{exchange_update}
+use Rattle.performed.proofs.CalmLines.{sends_of, turn_is, raw_alone}
 use Rattle.performed.proofs.CalmCards.{dead}
 use Rattle.performed.proofs.CalmKnown.{goes_to_reset}
 use Rattle.performed.proofs.CalmTurn.{final_success}
@@ -455,7 +456,7 @@ module _ (shows : ShowsCard) (s : Script) (earlier : List Line) (rules : keeps_r
   exchange_by a c r h right false e = by_each (line.Exchange a c r) (λ f o. refl) (λ st q. exchange_one a c r h right e st q)
   exchange_by a c r h right true e =
       let update : is_update_ins c.ins ≡ true = (and_parts (is_update_ins c.ins) (is_success r.sw) e).0 in
-      renewed_board (line.Exchange a c r) (λ f o. refl) (λ path. raw_renews (is_raw_line s (line.Exchange a c r) kept.jobs) kept.selected c r path e (exchange_update s kept a c r (sends_of s earlier served followed) h update)) (λ f. changed_upto s f (line.Exchange a c r ∷ earlier))
+      renewed_board (line.Exchange a c r) (λ f o. refl) (λ path. raw_renews (is_raw_line s (line.Exchange a c r) kept.jobs) kept.selected c r path e (sym (ap (has_value is_raw) (turn_is s kept a c r h)) ∙ raw_alone s kept c served (exchange_update s kept a c r (sends_of s earlier served followed) h update))) (λ f. changed_upto s f (line.Exchange a c r ∷ earlier))
 
   -- ---- an event of the world
 

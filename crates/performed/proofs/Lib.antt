@@ -24,6 +24,7 @@ pub mod MeasureNumbers
 pub mod Measure
 pub mod CalmLent
 pub mod CalmSends
+pub mod CalmLines
 pub mod CalmManage
 pub mod CalmHeld
 pub mod CalmMatch
