@@ -3,7 +3,6 @@ use Rattle.std.proofs.Common.{◌≡◌, ◌≤◌, ℕ, ◌==◌, ◌&&◌, not
 use Rattle.std.specs.Prelude.{option_map, filter}
 use Rattle.apdu.specs.Values.{CommandValue, ResponseValue}
 use Rattle.apdu.specs.Apdu.{manage_channel_ins, select_ins, is_success}
-use Rattle.card_model.specs.declared.world.WorldEvent.{WorldEvent}
 use Rattle.refresh_cmd.specs.Values.{ProactiveValue}
 use Rattle.script_reader.specs.declared.types.Script.{Script}
 use Rattle.script_reader.specs.declared.types.Operation.{Operation}

@@ -2,7 +2,7 @@
 -- stale, or a reading of it was refused that began behind the last change: an application's UPDATE makes each wanted family stale, and a FETCH
 -- those whose files its change touches, or the card is reset. Without a living epoch the board shows nothing, once its end is told.
 use Rattle.std.proofs.Common.{◌≡◌, ◌⊎◌, inl, inr, ◌≤◌, ◌<◌, ℕ, zero, suc, ◌+◌, ◌-◌, ◌==◌, ◌&&◌, ◌||◌, Bool, true, false, if◌then◌else◌, Option, Some, None, List, [], ◌∷◌, map, refl, ap, sym, ◌∙◌, subst, arith, true≢false}
-use Rattle.std.specs.Prelude.{slice_get, unwrap_or, option_map, find, is_some, is_none, not, nat_le, nat_lt, max}
+use Rattle.std.specs.Prelude.{slice_get, unwrap_or, option_map, find, is_some, not, nat_le, nat_lt, max}
 use Rattle.std.specs.List.{list_all, list_any}
 use Rattle.std.proofs.lemmas.Bool.{and_parts, and_from, eqb-true, ltb-true, ltb-false, or_cases}
 use Rattle.apdu.specs.Values.{CommandValue, ResponseValue}
@@ -13,8 +13,6 @@ use Rattle.refresh_cmd.specs.Proactive.{read_proactive}
 use Rattle.card_model.specs.declared.world.World.{World}
 use Rattle.card_model.specs.declared.world.WorldEvent.{WorldEvent}
 use Rattle.card_model.specs.declared.world.WorldEvent.TheVariants.{Arm, Out, Insert}
-use Rattle.card_model.specs.Slot.{refusal_of}
-use Rattle.card_model.specs.Step.{card_inside}
 use Rattle.card_effects.proofs.Same.{same_bytes_is}
 use Rattle.script_reader.specs.declared.types.Script.{Script}
 use Rattle.script_reader.specs.Rules.{keeps_rules}
@@ -32,7 +30,7 @@ use Rattle.rules.specs.declared.due.Due.{Due}
 use Rattle.rules.specs.declared.due.Due.TheVariants.{TryEvent as try_event, Publish as publish, Give as give}
 use Rattle.rules.specs.declared.kept.Kept.{Kept}
 use Rattle.rules.specs.declared.kept.Stage.{Stage}
-use Rattle.rules.specs.declared.kept.Stage.TheVariants.{Fresh as fresh, Next as next, Resetting as resetting, Over as over}
+use Rattle.rules.specs.declared.kept.Stage.TheVariants.{Fresh as fresh_stage, Next as next, Resetting as resetting, Over as over}
 use Rattle.rules.specs.declared.kept.Work.{Work}
 use Rattle.rules.specs.declared.standing.Standing.{Standing}
 use Rattle.rules.specs.LookingBack.{is_wanted}
@@ -296,7 +294,7 @@ abbrev BoardTrue : Script → List Line → Type 0
 BoardTrue s lines = AllTrue (seen s lines) (kept_of s lines).standings
 
 no_reset_stage : (work : Work) (stage : Stage) → reset_by_stage work stage ≡ false → goes_to_reset stage ≡ false
-no_reset_stage work fresh h = refl
+no_reset_stage work fresh_stage h = refl
 no_reset_stage work (next c) h = refl
 no_reset_stage work resetting h = dead (sym h)
 no_reset_stage work over h = refl
@@ -417,7 +415,7 @@ module _ (shows : ShowsCard) (s : Script) (earlier : List Line) (rules : keeps_r
   sent_stage a c r h = by_first kept.turn.stage (exchange_next s kept (shape s earlier followed).chain a c r h).first
     where
       by_first : (stage : Stage) → IsFirstOf (chain_first c kept.chain) stage → goes_to_reset stage ≡ false
-      by_first fresh f = refl
+      by_first fresh_stage f = refl
       by_first (next d) f = refl
       by_first resetting f = absurd f
       by_first over f = absurd f

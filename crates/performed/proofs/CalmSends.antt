@@ -10,8 +10,6 @@ use Rattle.apdu.specs.Apdu.{same_command, is_update_ins, verify_ins, manage_chan
 use Rattle.fcp.specs.declared.control.Fcp.{Fcp}
 use Rattle.fcp.specs.declared.rows.FileKind.{FileKind}
 use Rattle.fcp.specs.declared.rows.FileKind.TheVariants.{Transparent, Linear, Directory}
-use Rattle.card_model.specs.declared.world.WorldEvent.{WorldEvent}
-use Rattle.card_model.specs.declared.world.WorldEvent.TheVariants.{Arm, Out, Insert}
 use Rattle.script_reader.specs.declared.types.Script.{Script}
 use Rattle.script_reader.specs.declared.types.Operation.{Operation}
 use Rattle.script_reader.specs.declared.types.Operation.TheVariants as operation
@@ -19,13 +17,10 @@ use Rattle.report.specs.declared.line.Line.TheVariants as line
 use Rattle.link.specs.declared.chain.Chain.{Chain}
 use Rattle.link.specs.declared.chain.Final.{Final}
 use Rattle.link.specs.Commands.{get_response_for, follow_up, asks_more, select_only, is_at, most_exchanges}
-use Rattle.epoch_cache.specs.Past.{is_insertion}
 use Rattle.card_effects.proofs.Same.{same_bytes_is}
 use Rattle.loader.specs.Values.{ReadingValue}
 use Rattle.loader.specs.Reading.{reading_of, is_complete, read_by, read_number, next_read}
 use Rattle.loader.specs.Load.{selected_first, next_or_select, reading_command, is_selected, read_behind}
-use Rattle.rules.specs.declared.due.Due.{Due}
-use Rattle.rules.specs.declared.due.Due.TheVariants.{TryEvent as try_event}
 use Rattle.rules.specs.declared.kept.Begun.{Begun}
 use Rattle.rules.specs.declared.kept.Job.{Job}
 use Rattle.rules.specs.declared.kept.Kept.{Kept}
@@ -37,12 +32,11 @@ use Rattle.rules.specs.History.{is_living}
 use Rattle.rules.specs.Channels.{is_raw_ins}
 use Rattle.rules.specs.Kept.{operations_of, operation_at, begun_of, begun_operation, operation_now, job_of}
 use Rattle.rules.specs.After.{is_raw}
-use Rattle.rules.specs.Due.{first_command, first_of_turn, command_by_stage, command_by_chain, due_command, event_of, event_by_stage, due}
-use Rattle.rules.specs.Rules.{is_turn_of, same_event, turn_operation}
+use Rattle.rules.specs.Due.{first_command, first_of_turn, command_by_stage, command_by_chain, due_command, due}
+use Rattle.rules.specs.Rules.{is_turn_of, turn_operation}
 use Rattle.rules.specs.Performed.{is_sent}
 use Rattle.performed.specs.Served.{is_served, serves}
-use Rattle.performed.specs.Followed.{is_tried, is_followed}
-use Rattle.performed.proofs.MeasureSays.{stands_of}
+use Rattle.performed.specs.Followed.{is_followed}
 use Rattle.performed.proofs.CalmLent.{sent_of, lost_of}
 use Rattle.performed.proofs.CalmKinds.{is_calm, Calm, IsForm, IsExchangeOf, SendsFirst, WorkFits, SendsNext, Fits, sent_first, command_of, IsOfTurn, ChainFits, Sends, IsUpdater, IsNextOf, Kind, calm, application, opens, gives_up, closes, updates, verifies, Manages, by_open, by_refusal, by_close, ExchangeKind, FailedKind, ExchangeUpdate, ExchangeManages}
 use Rattle.rules.specs.declared.holdings.Handle.{Handle}

@@ -1,6 +1,6 @@
 -- Whatever a script does: a FETCH is the framework's, as the first command of its turn, and behind one that hands over a REFRESH which asks for
 -- a reset, the reset is due.
-use Rattle.std.proofs.Common.{◌≡◌, ℕ, zero, suc, ◌+◌, ◌-◌, ◌%◌, ◌==◌, ◌&&◌, not, nat_lt, Bool, true, false, if◌then◌else◌, List, [], ◌∷◌, length, Option, Some, None, is_some, option_map, option_and_then, refl, sym, ap, ◌∙◌, subst, true≢false}
+use Rattle.std.proofs.Common.{◌≡◌, ℕ, zero, suc, ◌+◌, ◌%◌, ◌==◌, ◌&&◌, not, nat_lt, Bool, true, false, if◌then◌else◌, List, [], ◌∷◌, length, Option, Some, None, is_some, option_map, option_and_then, refl, sym, ap, ◌∙◌, subst, arith, true≢false}
 use Rattle.std.specs.Prelude.{Result, Ok, Err}
 use Rattle.std.proofs.lemmas.Bool.{and_parts}
 use Rattle.apdu.specs.Values.{CommandValue, ResponseValue}
@@ -23,18 +23,17 @@ use Rattle.report.specs.declared.line.Line.{Line}
 use Rattle.report.specs.declared.line.Line.TheVariants as line
 use Rattle.link.specs.declared.chain.Chain.{Chain}
 use Rattle.link.specs.declared.chain.Final.{Final}
-use Rattle.link.specs.Commands.{asks_more, chain_count, chain_first, follow_up, get_response_for, is_at, most_exchanges, select_only}
+use Rattle.link.specs.Commands.{asks_more, chain_count, get_response_for, is_at, most_exchanges, select_only}
 use Rattle.channels.specs.Channels.{close_command, is_opening, on_channel, open_command, select_application}
 use Rattle.editor.specs.declared.editing.Attempt.{Attempt}
 use Rattle.editor.specs.declared.editing.Decided.{Decided}
 use Rattle.editor.specs.declared.editing.Editing.{Editing}
-use Rattle.editor.specs.Editing.{edit_paths, next_update, owed_update, update_command}
+use Rattle.editor.specs.Editing.{edit_paths, next_update, owed_update, planned, update_command}
 use Rattle.epoch_cache.specs.Cache.{asks_reset, first_missing, handed_refresh, view_of_files}
 use Rattle.loader.specs.Values.{ReadingValue}
 use Rattle.loader.specs.declared.reading.RefusedReading.{RefusedReading}
 use Rattle.loader.specs.Load.{is_selected, next_or_select, read_behind, reading_command, selected_first}
 use Rattle.loader.specs.Reading.{is_complete, next_read, read_by, read_number, reading_of}
-use Rattle.rules.specs.declared.due.Due.{Due}
 use Rattle.rules.specs.declared.holdings.Handle.{Handle}
 use Rattle.rules.specs.declared.kept.Begun.{Begun}
 use Rattle.rules.specs.declared.kept.Decision.{Decision}
@@ -47,21 +46,20 @@ use Rattle.rules.specs.declared.kept.Turn.{Turn}
 use Rattle.rules.specs.declared.kept.Work.{Work}
 use Rattle.rules.specs.declared.kept.Work.TheVariants.{Rests as rests, Refuses as refuses, Lacks as lacks, Sends as sends, Reads as reads, Writes as writes, Resets as resets, Happens as happens}
 use Rattle.rules.specs.History.{lives_in}
-use Rattle.rules.specs.Channels.{handle_of, held_numbers, is_living_handle, is_raw_ins}
+use Rattle.rules.specs.Channels.{handle_of, held_numbers, is_raw_ins}
 use Rattle.rules.specs.Editing.{attempt_of, family_edit, first_lack}
 use Rattle.rules.specs.Sessions.{verify_command}
 use Rattle.rules.specs.Kept.{begun_of, job_of, operation_at, operation_now}
-use Rattle.rules.specs.Work.{attempts, begins_plan, decided_work, decides, edit_work, goes_on, living_handle, plans, reads_first, sends_close, sends_raw, status_command, undecided_work, work_of_edit, work_of_operation}
-use Rattle.rules.specs.After.{decision_at, decision_of_begun, facts_of, fresh_begun, jobs_beside, next_or_over, opened_behind, refused_of, stage_after, stage_of_framework, stage_of_open, stage_of_sent, kept_after, kept_of}
+use Rattle.rules.specs.Work.{attempts, begins_plan, decided_work, decides, edit_work, living_handle, reads_first, sends_close, sends_raw, status_command, undecided_work, work_of_edit, work_of_operation}
+use Rattle.rules.specs.After.{decision_at, decision_of_begun, facts_of, fresh_begun, jobs_beside, next_or_over, opened_behind, refused_of, stage_after, stage_of_open, stage_of_sent, kept_after, kept_of}
 use Rattle.rules.specs.Due.{command_by_chain, command_by_stage, due, due_command, first_command, first_of_turn, writing_command}
-use Rattle.rules.specs.Performed.{begins_as, is_sent}
+use Rattle.rules.specs.Performed.{is_sent}
 use Rattle.rules.specs.Rules.{is_turn_of}
 use Rattle.performed.specs.Followed.{are_followed, is_followed}
 use Rattle.performed.proofs.CalmBehind.{actor_is, none_of_framework}
 use Rattle.performed.proofs.CalmLent.{sent_of}
 use Rattle.performed.proofs.CalmPhase.{same_command_is}
 use Rattle.performed.proofs.MeasureShape.{chain_now, final_now, led}
-use Rattle.performed.proofs.TurnsSays.{BeginsNow, begins_now}
 use Rattle.performed.proofs.EpochLives.{impossible}
 
 abbrev pub is_fetch : CommandValue → Bool
@@ -222,20 +220,20 @@ edit_quiet : (k : Kept) (a : ℕ) (b : Begun) (o : Option (ℕ × Edit)) → Qui
 edit_quiet k a b None = refl
 edit_quiet k a b (Some (f, e)) = by_epoch (lives_in k.history b.epoch)
   where
-    lacks_by : (plan : Plan) (paths : List (List ℕ)) (o : Option ℕ) → first_lack k.history a k.sessions k.files f (plan_updates plan) ≡ o → Quiet (begins_plan k a f plan paths).work
-    lacks_by plan paths None q = rw q refl
-    lacks_by plan paths (Some key) q = rw q refl
+    lacks_by : (plan : Plan) (paths : List (List ℕ)) (o : Option ℕ) → Quiet (elim o as (λ x. Decision) [ Some key ↦ decides (lacks key) | None ↦ record { work = writes; attempt = Some (planned f plan paths) } ]).work
+    lacks_by plan paths None = refl
+    lacks_by plan paths (Some key) = refl
 
-    plans_by : (paths : List (List ℕ)) (r : Result Plan PlanError) → family_plan f e (view_of_files k.files) ≡ r → Quiet (plans k a f e paths).work
-    plans_by paths (Err x) q = rw q refl
-    plans_by paths (Ok plan) q = subst (λ (r : Result Plan PlanError). Quiet (elim r as (λ x. Decision) [ Err refusal ↦ decides (refuses refusal) | Ok p ↦ begins_plan k a f p paths ]).work) (sym q) (lacks_by plan paths (first_lack k.history a k.sessions k.files f (plan_updates plan)) refl)
+    plans_by : (paths : List (List ℕ)) (r : Result Plan PlanError) → Quiet (elim r as (λ x. Decision) [ Err refusal ↦ decides (refuses refusal) | Ok plan ↦ begins_plan k a f plan paths ]).work
+    plans_by paths (Err x) = refl
+    plans_by paths (Ok plan) = lacks_by plan paths (first_lack k.history a k.sessions k.files f (plan_updates plan))
 
     going : (x : Bool) → Quiet (if x then writes else rests)
     going true = refl
     going false = refl
 
     attempt_by : (o : Option Attempt) (paths : List (List ℕ)) → Quiet (attempts k a f e o paths).work
-    attempt_by None paths = plans_by paths (family_plan f e (view_of_files k.files)) refl
+    attempt_by None paths = plans_by paths (family_plan f e (view_of_files k.files))
     attempt_by (Some x) paths = going (is_some (next_update x))
 
     missing_by : (o : Option Attempt) (m : Option (List ℕ)) → Quiet (elim m as (λ x. Decision) [ Some path ↦ decides (reads path) | None ↦ attempts k a f e o (edit_paths k.files f) ]).work
@@ -253,7 +251,7 @@ edit_quiet k a b (Some (f, e)) = by_epoch (lives_in k.history b.epoch)
         by_decided None = missing_by d.attempt (first_missing k.files (edit_paths k.files f))
         by_decided (Some x) = owed_by (is_some (owed_update true d))
 
-    by_epoch : (x : Bool) → Quiet (elim x [ true ↦ edit_work k a f e b.editing | false ↦ decides rests ]).work
+    by_epoch : (x : Bool) → Quiet (elim x as (λ y. Decision) [ true ↦ edit_work k a f e b.editing | false ↦ decides rests ]).work
     by_epoch true = decided_by b.editing
     by_epoch false = refl
 

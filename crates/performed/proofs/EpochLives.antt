@@ -1,10 +1,10 @@
 -- Whatever a script does: a command is due only while an epoch lives; without one no file is current and nothing is published, and once the
 -- end of the last one is told the board shows nothing.
-use Rattle.std.proofs.Common.{◌≡◌, ℕ, zero, suc, ◌==◌, ◌&&◌, ◌||◌, not, Bool, true, false, if◌then◌else◌, List, [], ◌∷◌, map, Option, Some, None, is_some, refl, sym, ap, ◌∙◌, subst, true≢false}
+use Rattle.std.proofs.Common.{◌≡◌, ℕ, zero, suc, ◌+◌, ◌==◌, ◌&&◌, not, Bool, true, false, if◌then◌else◌, List, [], ◌∷◌, map, Option, Some, None, is_some, refl, sym, ap, ◌∙◌, subst, arith, true≢false}
 use Rattle.std.specs.Prelude.{nat_le}
 use Rattle.std.specs.List.{list_all}
 use Rattle.std.proofs.lemmas.Bool.{and_parts, eqb-true}
-use Rattle.apdu.specs.Values.{CommandValue, ResponseValue}
+use Rattle.apdu.specs.Values.{CommandValue}
 use Rattle.apdu.specs.Words.{is_one_of}
 use Rattle.adn.specs.declared.edit.Edit.{Edit}
 use Rattle.card_model.specs.declared.world.WorldEvent.{WorldEvent}
@@ -20,11 +20,11 @@ use Rattle.channels.specs.Channels.{open_command}
 use Rattle.epoch_cache.specs.declared.cached.CachedFile.{CachedFile}
 use Rattle.epoch_cache.specs.declared.past.Past.{Past}
 use Rattle.epoch_cache.specs.Cache.{all_current, forgotten}
-use Rattle.loader.specs.declared.reading.RefusedReading.{RefusedReading}
 use Rattle.rules.specs.declared.due.Due.{Due}
-use Rattle.rules.specs.declared.due.Due.TheVariants.{TellEnd as tell_end, Send as send, ResetCard as reset_card, TryEvent as try_event, TellRefusal as tell_refusal, Publish as publish, Give as give, Begin as begin, WaitFor as wait_for, EndOfActor as end_of_actor, Rest as rest}
+use Rattle.rules.specs.declared.due.Due.TheVariants.{TellEnd as tell_end, Send as send, ResetCard as reset_card, TryEvent as try_event, TellRefusal as tell_refusal, Publish as publish, Give as give, Begin as begin, WaitFor as wait_for, EndOfActor as end_of_actor, Rest as rests_now}
 use Rattle.rules.specs.declared.holdings.Handle.{Handle}
 use Rattle.rules.specs.declared.kept.Begun.{Begun}
+use Rattle.rules.specs.declared.kept.Decision.{Decision}
 use Rattle.rules.specs.declared.kept.Job.{Job}
 use Rattle.rules.specs.declared.kept.Kept.{Kept}
 use Rattle.rules.specs.declared.kept.Stage.{Stage}
@@ -41,7 +41,7 @@ use Rattle.rules.specs.Standing.{first_standing, standing_after}
 use Rattle.rules.specs.Work.{is_finished, decides, edit_work, first_item, living_handle, reads_first, sends_close, sends_raw, status_command, work_of_edit, work_of_operation}
 use Rattle.rules.specs.After.{decision_at, decision_of_begun, facts_of, family_begun, fresh_begun, jobs_beside, refused_of, kept_after, kept_of}
 use Rattle.rules.specs.Due.{due, due_by_end, due_by_command, due_by_reset, due_command, is_reset_due, command_by_chain, command_by_stage, first_command, first_of_turn}
-use Rattle.rules.specs.Performed.{ends_turn, is_sent, is_reset, is_published, is_end_told, is_refusal_told}
+use Rattle.rules.specs.Performed.{ends_turn, is_sent, is_reset, is_published}
 use Rattle.rules.specs.Rules.{is_turn_of}
 use Rattle.performed.specs.Followed.{is_tried, are_followed, is_followed}
 use Rattle.performed.proofs.TurnsSays.{says_of, turn_done}
@@ -140,7 +140,7 @@ edit_lives : (k : Kept) (a : ℕ) (b : Begun) (o : Option (ℕ × Edit)) → sen
 edit_lives k a b None h = impossible h
 edit_lives k a b (Some (f, e)) h = by_epoch (lives_in k.history b.epoch) refl h
   where
-    by_epoch : (x : Bool) → lives_in k.history b.epoch ≡ x → sends_work (elim x [ true ↦ edit_work k a f e b.editing | false ↦ decides rests ]).work ≡ true → k.history.living ≡ true
+    by_epoch : (x : Bool) → lives_in k.history b.epoch ≡ x → sends_work (elim x as (λ y. Decision) [ true ↦ edit_work k a f e b.editing | false ↦ decides rests ]).work ≡ true → k.history.living ≡ true
     by_epoch true q g = epoch_lives k.history b.epoch q
     by_epoch false q g = impossible g
 
@@ -288,7 +288,7 @@ module _ (s : Script) (k : Kept) where
   last_no_end (begin i) h = refl
   last_no_end (wait_for b) h = refl
   last_no_end end_of_actor h = refl
-  last_no_end rest h = refl
+  last_no_end rests_now h = refl
 
   by_parts : (o : Option CommandValue) (b : Bool) → due_command k ≡ o → is_reset_due k ≡ b → k.turn.ended ≡ None → comes_last (due s k) ≡ true → b ≡ false
   by_parts (Some c) b e r t h = absurd (true≢false (sym h ∙ ap comes_last (ap (due_by_end s k) t ∙ ap (due_by_command s k) e)))

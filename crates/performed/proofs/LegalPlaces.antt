@@ -1,12 +1,10 @@
 -- Each line that is due has its place, its answer, its fault and its text right; so has the turn that ends where nothing is due.
 use Rattle.std.proofs.Common.{◌≡◌, ℕ, suc, ◌+◌, ◌==◌, ◌&&◌, ◌||◌, not, Bool, true, false, if◌then◌else◌, Option, Some, None, List, [], ◌∷◌, refl, sym, ap, ◌∙◌, subst, true≢false, arith}
-use Rattle.std.specs.Prelude.{is_none, is_some, nat_le, nat_lt, option_and_then}
+use Rattle.std.specs.Prelude.{is_none, nat_le, nat_lt, option_and_then}
 use Rattle.std.proofs.lemmas.Bool.{and_parts, and_from, eqb-true, eq-eqb}
 use Rattle.apdu.specs.Words.{same_bytes, is_one_of}
 use Rattle.card_effects.proofs.Same.{same_bytes_is}
-use Rattle.card_model.specs.declared.world.CardState.{CardState}
 use Rattle.card_model.specs.declared.world.World.{World}
-use Rattle.card_model.specs.Step.{card_inside}
 use Rattle.script_reader.specs.declared.types.Operation.{Operation}
 use Rattle.script_reader.specs.declared.types.Script.{Script}
 use Rattle.script_reader.specs.Rules.{keeps_rules}
@@ -30,7 +28,7 @@ use Rattle.rules.specs.Channels.{held_numbers}
 use Rattle.rules.specs.Kept.{actor_count, job_of, begun_of, operation_now}
 use Rattle.rules.specs.Work.{is_idle, is_finished, has_operations_left}
 use Rattle.rules.specs.After.{facts_of, refused_of, jobs_beside, turn_exchanged, kept_of}
-use Rattle.rules.specs.State.{world_of, shown_in, shown_on, same_shown, boards_of, texts_of, State}
+use Rattle.rules.specs.State.{world_of, shown_in, same_shown, boards_of, texts_of, State}
 use Rattle.rules.specs.Due.{due, published_by, kept_text}
 use Rattle.rules.specs.Laws.{ShowsCard, KeptLooksBack}
 use Rattle.rules.specs.Performed.{ends_turn, begins_as, is_published}
