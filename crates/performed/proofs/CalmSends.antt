@@ -70,7 +70,7 @@ served_list (ops ∷ actors) (suc a) h = served_list actors a (and_parts (list_a
 
 served_of : (s : Script) (a : ℕ) → serves s ≡ true → list_all is_served (operations_of s a) ≡ true
 served_of s zero h = refl
-served_of s (suc a) h = served_list s.actors a (and_parts (list_all (list_all is_served) s.actors) (is_empty s.faults) h).0
+served_of s (suc a) h = served_list s.actors a h
 
 pub served_at : (s : Script) (a i : ℕ) → serves s ≡ true → ServedOp (operation_at s a i)
 served_at s a i h = served_get (operations_of s a) i (served_of s a h)

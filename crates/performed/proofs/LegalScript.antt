@@ -56,7 +56,7 @@ pub record IsPlain (o : Option Operation) : Type 0 where
   pub formed : (op : Operation) → o ≡ Some op → has_form op ≡ true
 
 all_served : (s : Script) → serves s ≡ true → list_all (list_all is_served) s.actors ≡ true
-all_served s v = (and_parts (list_all (list_all is_served) s.actors) (is_empty s.faults) v).0
+all_served s v = v
 
 have_form : (cards changes : ℕ) (actors : List (List Operation)) → list_all (is_actor cards changes) actors ≡ true → list_all (list_all has_form) actors ≡ true
 have_form cards changes [] h = refl

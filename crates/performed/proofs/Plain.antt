@@ -67,7 +67,7 @@ served_actor (ops ∷ actors) (suc a) i h = served_actor actors a i (and_parts (
 
 pub served_at : (s : Script) (a i : ℕ) → serves s ≡ true → ServesAt (operation_at s a i)
 served_at s zero i h = tt
-served_at s (suc a) i h = served_actor s.actors a i (and_parts (list_all (list_all is_served) s.actors) (is_empty s.faults) h).0
+served_at s (suc a) i h = served_actor s.actors a i h
 
 pub served_now : (s : Script) (a : ℕ) (o : Option Begun) → serves s ≡ true → ServesAt (begun_operation s a o)
 served_now s a None h = tt

@@ -21,4 +21,4 @@ actor_served (ops ∷ xs) (suc a) h = actor_served xs a (and_parts (list_all is_
 
 pub served_at : (s : Script) (actor i : ℕ) (op : Operation) → serves s ≡ true → operation_at s actor i ≡ Some op → is_served op ≡ true
 served_at s zero i op h e = absurd (cc)
-served_at s (suc a) i op h e = one_served (unwrap_or (slice_get s.actors a) []) i op (actor_served s.actors a (and_parts (list_all (list_all is_served) s.actors) (is_empty s.faults) h).0) e
+served_at s (suc a) i op h e = one_served (unwrap_or (slice_get s.actors a) []) i op (actor_served s.actors a h) e
