@@ -300,15 +300,15 @@ module _ (s : Script) (k : Kept) where
   none_resets h = by_parts (due_command k) (is_reset_due k) refl refl (none_ended (last_no_end (due s k) h)) h
 
 -- each line but the end of an epoch does what is no end
-sent_no_end : (d : Due) (l : Line) → is_sent d l ≡ true → is_no_end d ≡ true
+pub sent_no_end : (d : Due) (l : Line) → is_sent d l ≡ true → is_no_end d ≡ true
 sent_no_end (send c) l h = refl
 sent_no_end d l h = impossible h
 
-reset_no_end : (d : Due) → is_reset d ≡ true → is_no_end d ≡ true
+pub reset_no_end : (d : Due) → is_reset d ≡ true → is_no_end d ≡ true
 reset_no_end reset_card h = refl
 reset_no_end d h = impossible h
 
-tried_no_end : (e : WorldEvent) (d : Due) → is_tried e d ≡ true → is_no_end d ≡ true
+pub tried_no_end : (e : WorldEvent) (d : Due) → is_tried e d ≡ true → is_no_end d ≡ true
 tried_no_end e (try_event x) h = refl
 tried_no_end e d h = impossible h
 

@@ -60,3 +60,5 @@ pub mod FreeReferences
 pub mod EpochLives
 pub mod EpochFetch
 pub mod EpochWorld
+pub mod EpochEnds
+pub mod EpochNames
