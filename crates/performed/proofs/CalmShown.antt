@@ -43,7 +43,7 @@ use Rattle.performed.proofs.CalmCards.{dead}
 
 -- ---- nothing is armed on any card
 
-abbrev AllUnarmed : List CardState → Type 0
+abbrev pub AllUnarmed : List CardState → Type 0
 AllUnarmed [] = Unit {0}
 AllUnarmed (card ∷ cards) = (card.armed ≡ []) × AllUnarmed cards
 
@@ -117,7 +117,7 @@ unarmed_of s (l ∷ earlier) served h =
     let p = and_parts (are_followed s earlier) (is_followed s (kept_of s earlier) l) h in
     unarmed_line s (world_of s earlier) (kept_of s earlier) l (sends_of s earlier served p.0) p.1 (unarmed_of s earlier served p.0)
 
-inside_unarmed : (w : World) (card : CardState) → AllUnarmed w.cards → card_inside w ≡ Some card → card.armed ≡ []
+pub inside_unarmed : (w : World) (card : CardState) → AllUnarmed w.cards → card_inside w ≡ Some card → card.armed ≡ []
 inside_unarmed w card t h = by_place w.inside h
   where
     by_place : (o : Option ℕ) → option_and_then (λ j. slice_get w.cards j) o ≡ Some card → card.armed ≡ []
@@ -126,11 +126,11 @@ inside_unarmed w card t h = by_place w.inside h
 
 -- ---- the files stay
 
-none_armed : (changes : List Change) (card : CardState) (change : Change) → card.armed ≡ [] → first_armed changes card ≡ Some change → ⊥
+pub none_armed : (changes : List Change) (card : CardState) (change : Change) → card.armed ≡ [] → first_armed changes card ≡ Some change → ⊥
 none_armed changes card change h e = absurd (let n : first_armed changes card ≡ None = ap (λ (armed : List ℕ). option_and_then (slice_get changes) (slice_get armed 0)) h in cc)
 
 -- a command that is no UPDATE that was done
-files_stay : (changes : List Change) (card : CardState) (c : CommandValue) (p : CardState × ResponseValue) → (is_update_ins c.ins && is_success p.1.sw) ≡ false → card.armed ≡ [] → Effect changes card c p → p.0.files ≡ card.files
+pub files_stay : (changes : List Change) (card : CardState) (c : CommandValue) (p : CardState × ResponseValue) → (is_update_ins c.ins && is_success p.1.sw) ≡ false → card.armed ≡ [] → Effect changes card c p → p.0.files ≡ card.files
 files_stay changes card c p h none (quiet k e) = k.files
 files_stay changes card c p h none (refuses_select number place channel on e d) = d.keeps.files
 files_stay changes card c p h none (reads_record number place channel on e d) = d.keeps.files
@@ -162,7 +162,7 @@ answers_in : (w : World) (card : CardState) (c : CommandValue) (o : Option ℕ) 
 answers_in w card c None h = absurd (cc)
 answers_in w card c (Some j) h = answers_at w j card c h (slice_get w.cards j) refl
 
-steps_answer : (w : World) (card : CardState) (c : CommandValue) → card_inside w ≡ Some card → (step w c).1 ≡ (on_card w.changes card c).1
+pub steps_answer : (w : World) (card : CardState) (c : CommandValue) → card_inside w ≡ Some card → (step w c).1 ≡ (on_card w.changes card c).1
 unfolding step
 steps_answer w card c h = answers_in w card c w.inside h
 
@@ -174,7 +174,7 @@ some_shown None f text h = dead h
 some_shown (Some card) f text h = refl
 
 -- the card in the slot gave the status
-told_status : (w : World) (a : ℕ) (c : CommandValue) (r : ResponseValue) (card : CardState) → card_inside w ≡ Some card → has_right_response w (line.Exchange a c r) ≡ true → r.sw ≡ (on_card w.changes card c).1.sw
+pub told_status : (w : World) (a : ℕ) (c : CommandValue) (r : ResponseValue) (card : CardState) → card_inside w ≡ Some card → has_right_response w (line.Exchange a c r) ≡ true → r.sw ≡ (on_card w.changes card c).1.sw
 told_status w a c r card inside right = same_status r (step w c).1 (and_parts (is_some (card_inside w)) (same_response r (step w c).1) right).1 ∙ ap (λ (x : ResponseValue). x.sw) (steps_answer w card c inside)
 
 pub step_shown : (w : World) (a : ℕ) (c : CommandValue) (r : ResponseValue) (f : ℕ) → AllUnarmed w.cards → is_update c r ≡ false → has_right_response w (line.Exchange a c r) ≡ true → shown_in (step w c).0 f ≡ shown_in w f

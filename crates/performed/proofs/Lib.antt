@@ -26,6 +26,11 @@ pub mod Measure
 pub mod CalmLent
 pub mod CalmSends
 pub mod CalmLines
+pub mod EditsBegun
+pub mod EditsFinal
+pub mod EditsCard
+pub mod EditsDecides
+pub mod EditsUndying
 pub mod CalmArmed
 pub mod CalmManage
 pub mod CalmHeld
