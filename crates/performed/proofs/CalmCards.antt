@@ -88,6 +88,10 @@ insert_holds : (w : World) (j : ℕ) → is_none (refusal_of w (Insert j)) ≡ t
 unfolding after_event
 insert_holds w j h = inserted_by w j (slice_get w.cards j) refl (some_at w.cards j (valid_by (nat_lt j (length w.cards)) (is_some (card_inside w)) j h).0)
 
+-- a card is put in where there was none
+pub insert_empty : (w : World) (j : ℕ) → is_none (refusal_of w (Insert j)) ≡ true → is_some (card_inside w) ≡ false
+insert_empty w j h = (valid_by (nat_lt j (length w.cards)) (is_some (card_inside w)) j h).1
+
 reset_by : (w : World) (o : Option ℕ) → w.inside ≡ o → is_some (option_and_then (λ j. slice_get w.cards j) o) ≡ true → Holds (reset_in w o)
 reset_by w None e h = absurd (true≢false (sym h))
 reset_by w (Some j) e h = inserted_by w j (slice_get w.cards j) refl h

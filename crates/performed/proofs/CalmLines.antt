@@ -65,6 +65,7 @@ use Rattle.families.specs.Plans.{plan_updates}
 use Rattle.epoch_cache.specs.Cache.{view_of_files}
 use Rattle.rules.specs.After.{stage_of_write}
 use Rattle.rules.specs.declared.kept.Decision.{Decision}
+use Rattle.performed.proofs.EditsDecides.{work_passes}
 use Rattle.performed.proofs.CalmSends.{ServedOp, behind_calm, exchange_of_turn, follow_calm_by, follow_turn, never, no_verify_asks, served_at, served_now, work_there}
 
 -- ---- what a turn decides
@@ -111,53 +112,12 @@ module _ (k : Kept) (actor handle : ℕ) where
   close_fits None e = tt
   close_fits (Some h) e = close_living h (is_living_handle k.history h) e refl
 
--- an edit reads, writes, or does nothing
-module _ (k : Kept) (actor : ℕ) (op : Option Operation) (writer : is_writer op ≡ true) (reader : IsReader op) where
-  abbrev EditFits : Decision → Type 0
-  EditFits d = WorkFits (is_living k.history) k.handles (Some actor) op d.work
-
-  begins_fit : (f : ℕ) (plan : Plan) (paths : List (List ℕ)) (o : Option ℕ) → EditFits (elim o [ Some key ↦ decides (lacks key) | None ↦ record { work = writes; attempt = Some (planned f plan paths) } ])
-  begins_fit f plan paths None = writer
-  begins_fit f plan paths (Some key) = tt
-
-  plans_fit : (f : ℕ) (paths : List (List ℕ)) (r : Result Plan PlanError) → EditFits (elim r [ Err refusal ↦ decides (refuses refusal) | Ok plan ↦ begins_plan k actor f plan paths ])
-  plans_fit f paths (Err refusal) = tt
-  plans_fit f paths (Ok plan) = begins_fit f plan paths (first_lack k.history actor k.sessions k.files f (plan_updates plan))
-
-  goes_fit : (b : Bool) → EditFits (decides (if b then writes else rests))
-  goes_fit true = writer
-  goes_fit false = tt
-
-  attempts_fit : (f : ℕ) (e : Edit) (a : Option Attempt) (paths : List (List ℕ)) → EditFits (attempts k actor f e a paths)
-  attempts_fit f e (Some a) paths = goes_fit (is_some (next_update a))
-  attempts_fit f e None paths = plans_fit f paths (family_plan f e (view_of_files k.files))
-
-  undecided_fits : (f : ℕ) (e : Edit) (a : Option Attempt) (o : Option (List ℕ)) → EditFits (elim o [ Some path ↦ decides (reads path) | None ↦ attempts k actor f e a (edit_paths k.files f) ])
-  undecided_fits f e a None = attempts_fit f e a (edit_paths k.files f)
-  undecided_fits f e a (Some path) = reader
-
-  decided_fits : (f : ℕ) (b : Bool) → EditFits (decides (if b then writes else reads_first k.files (family_paths f)))
-  decided_fits f true = writer
-  decided_fits f false = reads_first_fit (is_living k.history) k.handles (Some actor) op k.files (family_paths f) reader
-
-  edit_work_fits : (f : ℕ) (e : Edit) (editing : Editing) (o : Option Decided) → EditFits (elim o [ None ↦ undecided_work k actor f e editing.attempt | Some d ↦ decides (decided_work k f editing) ])
-  edit_work_fits f e editing None = undecided_fits f e editing.attempt (first_missing k.files (edit_paths k.files f))
-  edit_work_fits f e editing (Some d) = decided_fits f (is_some (owed_update true editing))
-
-  edit_living : (f : ℕ) (e : Edit) (editing : Editing) (b : Bool) → EditFits (elim b [ true ↦ edit_work k actor f e editing | false ↦ decides rests ])
-  edit_living f e editing true = edit_work_fits f e editing editing.decided
-  edit_living f e editing false = tt
-
-  edit_fits : (b : Begun) (o : Option (ℕ × Edit)) → EditFits (work_of_edit k actor b o)
-  edit_fits b None = tt
-  edit_fits b (Some (f, e)) = edit_living f e b.editing (lives_in k.history b.epoch)
-
 module _ (k : Kept) (actor : ℕ) (b : Begun) where
   while_living : (op : Operation) (work : Work) → WorkFits (is_living k.history) k.handles (Some actor) (Some op) work → WorkFits (is_living k.history) k.handles (Some actor) (Some op) (if_living k b work)
   while_living op work h = work_if (is_living k.history) k.handles (Some actor) (Some op) (lives_in k.history b.epoch) work rests h tt
 
   edit_operation : (op : Option Operation) → is_writer op ≡ true → IsReader op → WorkFits (is_living k.history) k.handles (Some actor) op (work_of_edit k actor b (edit_of op)).work
-  edit_operation op w r = edit_fits k actor op w r b (edit_of op)
+  edit_operation op w r = work_passes (WorkFits (is_living k.history) k.handles (Some actor) op) (record { writing = w; reading = λ path. r; resting = tt; lacking = λ key. tt; refusing = λ refusal. tt }) k actor b (edit_of op)
 
   operation_fits : (op : Operation) → is_served op ≡ true → WorkFits (is_living k.history) k.handles (Some actor) (Some op) (work_of_operation k actor b op).work
   operation_fits (operation.Insert card) h = tt

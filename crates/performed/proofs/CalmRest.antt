@@ -256,7 +256,7 @@ module _ (shows : ShowsCard) (s : Script) (earlier : List Line) (rules : keeps_r
 
 -- ---- the answers of the card
 
-told_response : (s : Script) (w : World) (k : Kept) (l : Line) → is_told s w k l ≡ true → has_right_response w l ≡ true
+pub told_response : (s : Script) (w : World) (k : Kept) (l : Line) → is_told s w k l ≡ true → has_right_response w l ≡ true
 told_response s w k (line.Exchange a c r) h = (and_parts (has_right_response w (line.Exchange a c r)) (has_right_fault s w k (line.Exchange a c r)) h).0
 told_response s w k (line.Failed a c d) h = (and_parts (has_right_response w (line.Failed a c d)) (has_right_fault s w k (line.Failed a c d)) h).0
 told_response s w k (line.Reset a) h = refl

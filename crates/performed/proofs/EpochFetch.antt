@@ -61,6 +61,7 @@ use Rattle.performed.proofs.CalmLent.{sent_of}
 use Rattle.performed.proofs.CalmPhase.{same_command_is}
 use Rattle.performed.proofs.MeasureShape.{chain_now, final_now, led}
 use Rattle.performed.proofs.EpochLives.{impossible}
+use Rattle.performed.proofs.EditsDecides.{work_passes}
 
 abbrev pub is_fetch : CommandValue → Bool
 is_fetch c = c.ins == fetch_ins
@@ -217,43 +218,7 @@ close_quiet None = refl
 close_quiet (Some h) = refl
 
 edit_quiet : (k : Kept) (a : ℕ) (b : Begun) (o : Option (ℕ × Edit)) → Quiet (work_of_edit k a b o).work
-edit_quiet k a b None = refl
-edit_quiet k a b (Some (f, e)) = by_epoch (lives_in k.history b.epoch)
-  where
-    lacks_by : (plan : Plan) (paths : List (List ℕ)) (o : Option ℕ) → Quiet (elim o as (λ x. Decision) [ Some key ↦ decides (lacks key) | None ↦ record { work = writes; attempt = Some (planned f plan paths) } ]).work
-    lacks_by plan paths None = refl
-    lacks_by plan paths (Some key) = refl
-
-    plans_by : (paths : List (List ℕ)) (r : Result Plan PlanError) → Quiet (elim r as (λ x. Decision) [ Err refusal ↦ decides (refuses refusal) | Ok plan ↦ begins_plan k a f plan paths ]).work
-    plans_by paths (Err x) = refl
-    plans_by paths (Ok plan) = lacks_by plan paths (first_lack k.history a k.sessions k.files f (plan_updates plan))
-
-    going : (x : Bool) → Quiet (if x then writes else rests)
-    going true = refl
-    going false = refl
-
-    attempt_by : (o : Option Attempt) (paths : List (List ℕ)) → Quiet (attempts k a f e o paths).work
-    attempt_by None paths = plans_by paths (family_plan f e (view_of_files k.files))
-    attempt_by (Some x) paths = going (is_some (next_update x))
-
-    missing_by : (o : Option Attempt) (m : Option (List ℕ)) → Quiet (elim m as (λ x. Decision) [ Some path ↦ decides (reads path) | None ↦ attempts k a f e o (edit_paths k.files f) ]).work
-    missing_by o None = attempt_by o (edit_paths k.files f)
-    missing_by o (Some path) = refl
-
-    owed_by : (x : Bool) → Quiet (if x then writes else reads_first k.files (family_paths f))
-    owed_by true = refl
-    owed_by false = reads_quiet (first_missing k.files (family_paths f))
-
-    decided_by : (d : Editing) → Quiet (edit_work k a f e d).work
-    decided_by d = by_decided d.decided
-      where
-        by_decided : (o : Option Decided) → Quiet (elim o as (λ x. Decision) [ None ↦ undecided_work k a f e d.attempt | Some x ↦ decides (decided_work k f d) ]).work
-        by_decided None = missing_by d.attempt (first_missing k.files (edit_paths k.files f))
-        by_decided (Some x) = owed_by (is_some (owed_update true d))
-
-    by_epoch : (x : Bool) → Quiet (elim x as (λ y. Decision) [ true ↦ edit_work k a f e b.editing | false ↦ decides rests ]).work
-    by_epoch true = decided_by b.editing
-    by_epoch false = refl
+edit_quiet k a b o = work_passes (λ (w : Work). Quiet w) (record { writing = refl; reading = λ path. refl; resting = refl; lacking = λ key. refl; refusing = λ refusal. refl }) k a b o
 
 operation_quiet : (k : Kept) (a : ℕ) (b : Begun) (op : Operation) → Quiet (work_of_operation k a b op).work
 operation_quiet k a b (operation.Insert card) = refl

@@ -25,6 +25,11 @@ pub mod Measure
 pub mod CalmLent
 pub mod CalmSends
 pub mod CalmLines
+pub mod EditsBegun
+pub mod EditsFinal
+pub mod EditsCard
+pub mod EditsDecides
+pub mod EditsUndying
 pub mod CalmManage
 pub mod CalmHeld
 pub mod CalmMatch
@@ -62,3 +67,6 @@ pub mod EpochFetch
 pub mod EpochWorld
 pub mod EpochEnds
 pub mod EpochNames
+pub mod SteadyArmed
+pub mod SteadyEvents
+pub mod SteadyShown

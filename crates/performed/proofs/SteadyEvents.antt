@@ -49,7 +49,7 @@ use Rattle.performed.specs.Followed.{is_tried, are_followed, is_followed}
 use Rattle.performed.proofs.MeasureShape.{led}
 use Rattle.performed.proofs.TurnsSays.{says_of}
 use Rattle.performed.proofs.EpochLives.{impossible}
-use Rattle.performed.proofs.EpochFetch.{edit_events}
+use Rattle.performed.proofs.EditsDecides.{work_passes}
 
 -- what happens by it is an insertion
 abbrev inserts : Work → Bool
@@ -103,6 +103,9 @@ steady_now s a (Some b) h op e = steady_at s a b.index h op e
 
 -- ---- what a turn decides
 
+edit_inserts : (k : Kept) (a : ℕ) (b : Begun) (o : Option (ℕ × Edit)) → inserts (work_of_edit k a b o).work ≡ true
+edit_inserts k a b o = work_passes (λ (w : Work). inserts w ≡ true) (record { writing = refl; reading = λ path. refl; resting = refl; lacking = λ key. refl; refusing = λ refusal. refl }) k a b o
+
 module _ (k : Kept) (a : ℕ) (b : Begun) where
   operation_inserts : (op : Operation) → is_steady op ≡ true → inserts (work_of_operation k a b op).work ≡ true
   operation_inserts (operation.Insert card) h = refl
@@ -118,10 +121,102 @@ module _ (k : Kept) (a : ℕ) (b : Begun) where
   operation_inserts operation.Look h = refl
   operation_inserts (operation.Watch mask) h = refl
   operation_inserts operation.Notices h = refl
-  operation_inserts (operation.Set f at name number) h = edit_events inserts refl refl refl refl (λ path. refl) (λ key. refl) (λ e. refl) k a b (family_edit (operation.Set f at name number))
-  operation_inserts (operation.Clear f at) h = edit_events inserts refl refl refl refl (λ path. refl) (λ key. refl) (λ e. refl) k a b (family_edit (operation.Clear f at))
+  operation_inserts (operation.Set f at name number) h = edit_inserts k a b (family_edit (operation.Set f at name number))
+  operation_inserts (operation.Clear f at) h = edit_inserts k a b (family_edit (operation.Clear f at))
 
 begun_inserts : (k : Kept) (a : ℕ) (b : Option Begun) (op : Option Operation) → Steady op → inserts (decision_of_begun k a b op).work ≡ true
 begun_inserts k a (Some b) (Some op) h = operation_inserts k a b op (h op refl)
 begun_inserts k a (Some b) None h = refl
 begun_inserts k a None op h = refl
+
+module _ (k : Kept) where
+  stale_inserts : (o : Option ℕ) → inserts (elim o [ Some f ↦ reads_first k.files (family_paths f) | None ↦ rests ]) ≡ true
+  stale_inserts None = refl
+  stale_inserts (Some f) = reads_inserts (first_missing k.files (family_paths f))
+
+  announced_inserts : (o : Option ℕ) → inserts (elim o [ Some byte ↦ sends (fetch_command byte) | None ↦ read_stale k ]) ≡ true
+  announced_inserts None = stale_inserts (first_stale k.standings)
+  announced_inserts (Some byte) = refl
+
+  owed_inserts : (o : Option CommandValue) → inserts (elim o [ Some c ↦ sends c | None ↦ elim k.history.announced [ Some byte ↦ sends (fetch_command byte) | None ↦ read_stale k ] ]) ≡ true
+  owed_inserts None = announced_inserts k.history.announced
+  owed_inserts (Some c) = refl
+
+  item_inserts : inserts (first_item k) ≡ true
+  item_inserts = inserts_if (is_starting k) (sends (startup_command k.startup)) (elim k.owed [ Some c ↦ sends c | None ↦ elim k.history.announced [ Some byte ↦ sends (fetch_command byte) | None ↦ read_stale k ] ]) refl (owed_inserts k.owed)
+
+  living_inserts : (b : Bool) → inserts (elim b [ true ↦ first_item k | false ↦ rests ]) ≡ true
+  living_inserts true = item_inserts
+  living_inserts false = refl
+
+  framework_inserts : inserts (framework_work k) ≡ true
+  framework_inserts = inserts_if k.history.owes_reset resets (elim k.history.living [ true ↦ first_item k | false ↦ rests ]) refl (living_inserts k.history.living)
+
+mark_inserts : (s : Script) (k : Kept) (a : ℕ) → is_steady_script s ≡ true → inserts (decision_at s (line.Turn a) k).work ≡ true
+mark_inserts s k zero steady = framework_inserts k
+mark_inserts s k (suc a) steady = begun_inserts k (suc a) (begun_of (suc a) k.jobs) (operation_now s (suc a) k.jobs) (steady_now s (suc a) (begun_of (suc a) k.jobs) steady)
+
+-- ---- every line
+
+led_inserts : (op : Option Operation) (job : Job) (held : List ℕ) (refresh : Option ProactiveValue) (refused : Option RefusedReading) (t : Turn) (o : Option Final) → inserts t.work ≡ true → inserts (led op job held refresh refused t o).work ≡ true
+led_inserts op job held refresh refused t None h = h
+led_inserts op job held refresh refused t (Some f) h = h
+
+module _ (s : Script) (k : Kept) (steady : is_steady_script s ≡ true) (t : inserts k.turn.work ≡ true) where
+  exchange_inserts : (a : ℕ) (c : CommandValue) (r : ResponseValue) → inserts (kept_after s (line.Exchange a c r) k).turn.work ≡ true
+  exchange_inserts a c r =
+      let l : Line = line.Exchange a c r in
+      let facts : Facts = facts_of s l k in
+      led_inserts (operation_now s a k.jobs) (job_of a (kept_after s l k).jobs) (held_numbers k.history k.handles) facts.touch.refresh
+      (refused_of k.selected (jobs_beside l k.history.epoch facts k.selected k.jobs) facts.answered) k.turn facts.answered t
+
+  line_inserts : (l : Line) → inserts (kept_after s l k).turn.work ≡ true
+  line_inserts (line.Turn a) = mark_inserts s k a steady
+  line_inserts (line.Begin a i) = begun_inserts k a (Some (fresh_begun i k.history)) (operation_at s a i) (steady_at s a i steady)
+  line_inserts (line.Exchange a c r) = exchange_inserts a c r
+  line_inserts (line.Failed a c d) = t
+  line_inserts (line.Reset a) = t
+  line_inserts (line.ResetFailed a) = t
+  line_inserts (line.World a e) = t
+  line_inserts (line.Published n f e v text) = t
+  line_inserts (line.EpochEnd n e v) = t
+  line_inserts (line.Refused f n) = t
+  line_inserts (line.Answered a i given) = t
+
+inserts_of : (s : Script) (lines : List Line) → is_steady_script s ≡ true → inserts (kept_of s lines).turn.work ≡ true
+inserts_of s [] steady = refl
+inserts_of s (l ∷ earlier) steady = line_inserts s (kept_of s earlier) steady (inserts_of s earlier steady) l
+
+-- ---- an event
+
+event_by : (work : Work) (stage : Stage) (e : WorldEvent) → inserts work ≡ true → event_by_stage work stage ≡ Some e → is_insertion e ≡ true
+event_by (happens x) fresh e h q = let same : x ≡ e = cc in subst (λ (y : WorldEvent). is_insertion y ≡ true) same h
+event_by (sends c) fresh e h q = absurd (cc)
+event_by (reads path) fresh e h q = absurd (cc)
+event_by writes fresh e h q = absurd (cc)
+event_by rests fresh e h q = absurd (cc)
+event_by (refuses x) fresh e h q = absurd (cc)
+event_by (lacks key) fresh e h q = absurd (cc)
+event_by resets fresh e h q = absurd (cc)
+event_by work (next c) e h q = absurd (cc)
+event_by work resetting e h q = absurd (cc)
+event_by work over e h q = absurd (cc)
+
+same_insertion : (e x : WorldEvent) → is_insertion x ≡ true → same_event e x ≡ true → is_insertion e ≡ true
+same_insertion (Insert j) x i h = refl
+same_insertion Out (Insert k) i h = impossible h
+same_insertion Out Out i h = i
+same_insertion Out (Arm k) i h = i
+same_insertion (Arm j) (Insert k) i h = impossible h
+same_insertion (Arm j) Out i h = i
+same_insertion (Arm j) (Arm k) i h = i
+
+tried_insertion : (s : Script) (k : Kept) (e : WorldEvent) (d : Due) → inserts k.turn.work ≡ true → due s k ≡ d → is_tried e d ≡ true → is_insertion e ≡ true
+tried_insertion s k e (try_event x) t is h = same_insertion e x (event_by k.turn.work k.turn.stage x t (says_of s k (try_event x) is)) h
+tried_insertion s k e d t is h = impossible h
+
+-- an event that follows is an insertion
+pub world_insertion : (s : Script) (lines : List Line) → is_steady_script s ≡ true → are_followed s lines ≡ true → (a : ℕ) (e : WorldEvent) → is_followed s (kept_of s lines) (line.World a e) ≡ true → is_insertion e ≡ true
+world_insertion s lines steady followed a e h =
+    let k : Kept = kept_of s lines in
+    tried_insertion s k e (due s k) (inserts_of s lines steady) refl (and_parts (is_turn_of a k.turn) (is_tried e (due s k)) h).1
