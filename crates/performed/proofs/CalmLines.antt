@@ -1,5 +1,5 @@
 -- What a served turn sends fits its operation, line by line.
-use Rattle.std.proofs.Common.{◌≡◌, inl, inr, ℕ, zero, suc, ◌==◌, ◌&&◌, not, Bool, true, false, if◌then◌else◌, Option, Some, None, is_some, Result, Ok, Err, List, [], ◌∷◌, ◌+◌, length, refl, ap, sym, ◌∙◌, subst, true≢false, ◌-◌}
+use Rattle.std.proofs.Common.{◌≡◌, inl, inr, ℕ, zero, suc, ◌==◌, ◌&&◌, not, Bool, true, false, if◌then◌else◌, Option, Some, None, List, [], ◌∷◌, ◌+◌, length, refl, ap, sym, ◌∙◌, subst, true≢false, ◌-◌}
 use Rattle.std.specs.Prelude.{option_map, option_and_then}
 use Rattle.std.proofs.lemmas.Bool.{and_parts, eqb-true}
 use Rattle.apdu.specs.Values.{CommandValue, ResponseValue}
@@ -52,19 +52,10 @@ use Rattle.rules.specs.Sessions.{verify_command}
 use Rattle.channels.specs.Channels.{open_command, close_command, select_application, on_channel, is_opening}
 use Rattle.editor.specs.declared.editing.Attempt.{Attempt}
 use Rattle.adn.specs.declared.edit.RowUpdate.{RowUpdate}
-use Rattle.adn.specs.declared.edit.Edit.{Edit}
-use Rattle.adn.specs.declared.edit.Plan.{Plan}
-use Rattle.adn.specs.declared.edit.PlanError.{PlanError}
-use Rattle.editor.specs.declared.editing.Editing.{Editing}
-use Rattle.editor.specs.declared.editing.Decided.{Decided}
-use Rattle.editor.specs.Editing.{next_update, update_command, planned, owed_update, edit_paths}
-use Rattle.rules.specs.Editing.{attempt_of, first_lack}
-use Rattle.rules.specs.Work.{decides, begins_plan, attempts, undecided_work, decided_work, edit_work, work_of_edit}
-use Rattle.families.specs.Families.{family_plan}
-use Rattle.families.specs.Plans.{plan_updates}
-use Rattle.epoch_cache.specs.Cache.{view_of_files}
+use Rattle.editor.specs.Editing.{next_update, update_command}
+use Rattle.rules.specs.Editing.{attempt_of}
+use Rattle.rules.specs.Work.{work_of_edit}
 use Rattle.rules.specs.After.{stage_of_write}
-use Rattle.rules.specs.declared.kept.Decision.{Decision}
 use Rattle.performed.proofs.EditsDecides.{work_passes}
 use Rattle.performed.proofs.CalmSends.{ServedOp, behind_calm, exchange_of_turn, follow_calm_by, follow_turn, never, no_verify_asks, served_at, served_now, work_there}
 

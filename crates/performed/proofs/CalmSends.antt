@@ -5,7 +5,7 @@ use Rattle.std.specs.Prelude.{slice_get, unwrap_or, option_map, option_and_then,
 use Rattle.std.specs.List.{list_all}
 use Rattle.std.proofs.lemmas.Bool.{and_parts, eqb-true, not-true}
 use Rattle.apdu.specs.Values.{CommandValue, ResponseValue}
-use Rattle.apdu.specs.Words.{has_value, is_empty, same_number, same_bytes}
+use Rattle.apdu.specs.Words.{has_value, same_number, same_bytes}
 use Rattle.apdu.specs.Apdu.{same_command, is_update_ins, verify_ins, manage_channel_ins, update_record_ins, has_more, with_le, le_of_byte, wants_more}
 use Rattle.fcp.specs.declared.control.Fcp.{Fcp}
 use Rattle.fcp.specs.declared.rows.FileKind.{FileKind}

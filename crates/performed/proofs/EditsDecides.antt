@@ -1,5 +1,5 @@
 -- What a turn of an edit decides: it reads, writes, refuses its plan, lacks a key, or rests.
-use Rattle.std.proofs.Common.{◌≡◌, ℕ, Bool, true, false, if◌then◌else◌, Option, Some, None, is_some, Result, Ok, Err, List, refl}
+use Rattle.std.proofs.Common.{ℕ, Bool, true, false, if◌then◌else◌, Option, Some, None, is_some, Result, Ok, Err, List}
 use Rattle.adn.specs.declared.edit.Edit.{Edit}
 use Rattle.adn.specs.declared.edit.Plan.{Plan}
 use Rattle.adn.specs.declared.edit.PlanError.{PlanError}

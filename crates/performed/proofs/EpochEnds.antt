@@ -1,5 +1,5 @@
 -- Each event that ends an epoch which lived is told once, before its turn ends.
-use Rattle.std.proofs.Common.{◌≡◌, ℕ, ◌+◌, ◌&&◌, not, Bool, true, false, if◌then◌else◌, Option, Some, None, is_some, List, [], ◌∷◌, refl, sym, ap, ◌∙◌, arith}
+use Rattle.std.proofs.Common.{◌≡◌, ℕ, ◌+◌, ◌&&◌, not, Bool, true, false, if◌then◌else◌, Option, Some, None, is_some, List, [], ◌∷◌, refl, ap, ◌∙◌, arith}
 use Rattle.std.specs.Prelude.{nat_le}
 use Rattle.std.proofs.lemmas.Bool.{and_parts}
 use Rattle.apdu.specs.Values.{CommandValue, ResponseValue}
@@ -13,7 +13,7 @@ use Rattle.link.specs.declared.chain.Final.{Final}
 use Rattle.loader.specs.declared.reading.RefusedReading.{RefusedReading}
 use Rattle.refresh_cmd.specs.Values.{ProactiveValue}
 use Rattle.rules.specs.declared.due.Due.{Due}
-use Rattle.rules.specs.declared.due.Due.TheVariants.{TellEnd as tell_end, Send as send}
+use Rattle.rules.specs.declared.due.Due.TheVariants.{TellEnd as tell_end}
 use Rattle.rules.specs.declared.kept.Facts.{Facts}
 use Rattle.rules.specs.declared.kept.Job.{Job}
 use Rattle.rules.specs.declared.kept.Kept.{Kept}
@@ -41,7 +41,7 @@ untold k = one_if (is_some k.turn.ended)
 abbrev Adds : Script → Kept → Line → Type 0
 Adds s k l = (told happened : ℕ) → told + untold k ≡ happened → (one_if (tells_end l) + told) + untold (kept_after s l k) ≡ one_if (ends_epoch l k.history) + happened
 
-led_ended : (op : Option Operation) (job : Job) (held : List ℕ) (refresh : Option ProactiveValue) (refused : Option RefusedReading) (t : Turn) (o : Option Final) → (led op job held refresh refused t o).ended ≡ t.ended
+pub led_ended : (op : Option Operation) (job : Job) (held : List ℕ) (refresh : Option ProactiveValue) (refused : Option RefusedReading) (t : Turn) (o : Option Final) → (led op job held refresh refused t o).ended ≡ t.ended
 led_ended op job held refresh refused t None = refl
 led_ended op job held refresh refused t (Some f) = refl
 

@@ -1,21 +1,17 @@
 -- Whatever a script does: a FETCH is the framework's, as the first command of its turn, and behind one that hands over a REFRESH which asks for
 -- a reset, the reset is due.
-use Rattle.std.proofs.Common.{◌≡◌, ℕ, zero, suc, ◌+◌, ◌%◌, ◌==◌, ◌&&◌, not, nat_lt, Bool, true, false, if◌then◌else◌, List, [], ◌∷◌, length, Option, Some, None, is_some, option_map, option_and_then, refl, sym, ap, ◌∙◌, subst, arith, true≢false}
-use Rattle.std.specs.Prelude.{Result, Ok, Err}
+use Rattle.std.proofs.Common.{◌≡◌, ℕ, zero, suc, ◌+◌, ◌%◌, ◌==◌, ◌&&◌, not, nat_lt, Bool, true, false, if◌then◌else◌, List, [], ◌∷◌, length, Option, Some, None, option_map, option_and_then, refl, sym, ap, ◌∙◌, subst, arith, true≢false}
 use Rattle.std.proofs.lemmas.Bool.{and_parts}
 use Rattle.apdu.specs.Values.{CommandValue, ResponseValue}
 use Rattle.apdu.specs.Words.{has_value}
 use Rattle.apdu.specs.Apdu.{same_command, fetch_ins, has_more, is_success, le_of_byte, select_ins, verify_ins, wants_more, with_le}
 use Rattle.adn.specs.declared.edit.Edit.{Edit}
-use Rattle.adn.specs.declared.edit.Plan.{Plan}
-use Rattle.adn.specs.declared.edit.PlanError.{PlanError}
 use Rattle.adn.specs.declared.edit.RowUpdate.{RowUpdate}
 use Rattle.refresh_cmd.specs.Values.{ProactiveValue}
 use Rattle.fcp.specs.declared.control.Fcp.{Fcp}
 use Rattle.fcp.specs.declared.rows.FileKind.{FileKind}
 use Rattle.fcp.specs.declared.rows.FileKind.TheVariants.{Transparent, Linear, Directory}
-use Rattle.families.specs.Plans.{plan_updates}
-use Rattle.families.specs.Families.{family_path, family_paths, family_plan}
+use Rattle.families.specs.Families.{family_path, family_paths}
 use Rattle.script_reader.specs.declared.types.Script.{Script}
 use Rattle.script_reader.specs.declared.types.Operation.{Operation}
 use Rattle.script_reader.specs.declared.types.Operation.TheVariants as operation
@@ -26,17 +22,14 @@ use Rattle.link.specs.declared.chain.Final.{Final}
 use Rattle.link.specs.Commands.{asks_more, chain_count, get_response_for, is_at, most_exchanges, select_only}
 use Rattle.channels.specs.Channels.{close_command, is_opening, on_channel, open_command, select_application}
 use Rattle.editor.specs.declared.editing.Attempt.{Attempt}
-use Rattle.editor.specs.declared.editing.Decided.{Decided}
-use Rattle.editor.specs.declared.editing.Editing.{Editing}
-use Rattle.editor.specs.Editing.{edit_paths, next_update, owed_update, planned, update_command}
-use Rattle.epoch_cache.specs.Cache.{asks_reset, first_missing, handed_refresh, view_of_files}
+use Rattle.editor.specs.Editing.{next_update, update_command}
+use Rattle.epoch_cache.specs.Cache.{asks_reset, first_missing, handed_refresh}
 use Rattle.loader.specs.Values.{ReadingValue}
 use Rattle.loader.specs.declared.reading.RefusedReading.{RefusedReading}
 use Rattle.loader.specs.Load.{is_selected, next_or_select, read_behind, reading_command, selected_first}
 use Rattle.loader.specs.Reading.{is_complete, next_read, read_by, read_number, reading_of}
 use Rattle.rules.specs.declared.holdings.Handle.{Handle}
 use Rattle.rules.specs.declared.kept.Begun.{Begun}
-use Rattle.rules.specs.declared.kept.Decision.{Decision}
 use Rattle.rules.specs.declared.kept.Facts.{Facts}
 use Rattle.rules.specs.declared.kept.Job.{Job}
 use Rattle.rules.specs.declared.kept.Kept.{Kept}
@@ -47,10 +40,10 @@ use Rattle.rules.specs.declared.kept.Work.{Work}
 use Rattle.rules.specs.declared.kept.Work.TheVariants.{Rests as rests, Refuses as refuses, Lacks as lacks, Sends as sends, Reads as reads, Writes as writes, Resets as resets, Happens as happens}
 use Rattle.rules.specs.History.{lives_in}
 use Rattle.rules.specs.Channels.{handle_of, held_numbers, is_raw_ins}
-use Rattle.rules.specs.Editing.{attempt_of, family_edit, first_lack}
+use Rattle.rules.specs.Editing.{attempt_of, family_edit}
 use Rattle.rules.specs.Sessions.{verify_command}
 use Rattle.rules.specs.Kept.{begun_of, job_of, operation_at, operation_now}
-use Rattle.rules.specs.Work.{attempts, begins_plan, decided_work, decides, edit_work, living_handle, reads_first, sends_close, sends_raw, status_command, undecided_work, work_of_edit, work_of_operation}
+use Rattle.rules.specs.Work.{living_handle, reads_first, sends_close, sends_raw, status_command, work_of_edit, work_of_operation}
 use Rattle.rules.specs.After.{decision_at, decision_of_begun, facts_of, fresh_begun, jobs_beside, next_or_over, opened_behind, refused_of, stage_after, stage_of_open, stage_of_sent, kept_after, kept_of}
 use Rattle.rules.specs.Due.{command_by_chain, command_by_stage, due, due_command, first_command, first_of_turn, writing_command}
 use Rattle.rules.specs.Performed.{is_sent}

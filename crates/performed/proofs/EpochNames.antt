@@ -1,6 +1,6 @@
 -- An answer that an epoch ended names the event that ended it: the epoch of an operation and that of a handle have as their end the event that
 -- the lines tell.
-use Rattle.std.proofs.Common.{◌≡◌, ◌≤◌, ◌<◌, ℕ, zero, suc, ◌+◌, ◌==◌, ◌&&◌, ◌||◌, not, Bool, true, false, if◌then◌else◌, List, [], ◌∷◌, replicate, Option, Some, None, is_some, refl, sym, ap, ◌∙◌, subst, arith, true≢false}
+use Rattle.std.proofs.Common.{◌≡◌, ◌<◌, ℕ, zero, suc, ◌+◌, ◌==◌, ◌&&◌, ◌||◌, not, Bool, true, false, if◌then◌else◌, List, [], ◌∷◌, replicate, Option, Some, None, refl, sym, ap, ◌∙◌, subst, arith, true≢false}
 use Rattle.std.specs.Prelude.{option_map}
 use Rattle.std.specs.List.{list_all}
 use Rattle.std.proofs.lemmas.Bool.{and_parts, and_from, eqb-true, eq-eqb}
@@ -30,19 +30,19 @@ use Rattle.rules.specs.declared.kept.Outcome.TheVariants as outcome
 use Rattle.rules.specs.declared.kept.Turn.{Turn}
 use Rattle.rules.specs.declared.kept.Work.{Work}
 use Rattle.rules.specs.declared.kept.Work.TheVariants.{Refuses as refuses, Lacks as lacks}
-use Rattle.rules.specs.History.{begins_epoch, stops_epoch, ends_epoch, history_after, is_living}
+use Rattle.rules.specs.History.{begins_epoch, stops_epoch, ends_epoch, is_living}
 use Rattle.rules.specs.Channels.{is_handle_of, handle_of, is_raw_ins, ended_handle, ended_handles}
 use Rattle.rules.specs.Sessions.{has_session}
 use Rattle.rules.specs.Kept.{actor_count, first_job, job_of, begun_of, operation_at, operation_now, change_at}
 use Rattle.rules.specs.Watching.{notices_of}
-use Rattle.rules.specs.After.{begun_beside, begun_exchanged, begun_failed, begun_with, decision_at, edit_of, ended_by, facts_of, fresh_begun, handles_given, job_beside, jobs_beside, own_job, kept_after, kept_of}
-use Rattle.rules.specs.Due.{answer_of, answer_of_actor, answer_of_begun, answer_of_outcome, decided_answer, due, due_answer, done_publication, edit_answer, is_lost, loaded, on_handle, outcome_answer, plan_refusal, planning_answer, raw_on_handle, with_card, with_ended}
+use Rattle.rules.specs.After.{begun_beside, begun_exchanged, begun_failed, begun_with, decision_at, edit_of, ended_by, facts_of, handles_given, job_beside, jobs_beside, own_job, kept_after, kept_of}
+use Rattle.rules.specs.Due.{answer_of, answer_of_actor, answer_of_begun, answer_of_outcome, decided_answer, due, done_publication, edit_answer, is_lost, loaded, on_handle, outcome_answer, plan_refusal, planning_answer, raw_on_handle, with_card, with_ended}
 use Rattle.rules.specs.Rules.{is_turn_of, is_begun_at, flag, same_answer}
 use Rattle.performed.specs.Followed.{is_given_or_refused, are_followed, is_followed}
 use Rattle.performed.specs.Laws.{ended_at, EndsAreNamed}
 use Rattle.performed.proofs.Handles.{new_handle, all_found, all_mapped, all_still, given_good}
 use Rattle.performed.proofs.ProgressJobs.{changed, mapped}
-use Rattle.performed.proofs.ProgressSound.{lives_or_ended, sound}
+use Rattle.performed.proofs.ProgressSound.{sound}
 use Rattle.performed.proofs.ProgressHandles.{given_alive}
 use Rattle.performed.proofs.TurnsSays.{says_of}
 use Rattle.performed.proofs.EpochLives.{impossible}
@@ -86,13 +86,13 @@ lived_on s e l earlier false false living b t v h before =
     ∙ ap (λ (x : Bool). if ((false || x) && k.history.living) && (k.history.epoch == e) then Some (k.history.events + 1) else ended_at s e earlier) t
     ∙ before (ap (λ (x : Bool). x && (k.history.epoch == e)) v ∙ h)
 
-none_ended : (s : Script) (e : ℕ) (lines : List Line) → is_living (kept_of s lines).history e ≡ true → ended_at s e lines ≡ None
+pub none_ended : (s : Script) (e : ℕ) (lines : List Line) → is_living (kept_of s lines).history e ≡ true → ended_at s e lines ≡ None
 none_ended s e [] h = refl
 none_ended s e (l ∷ earlier) h = lived_on s e l earlier (begins_epoch l) (stops_epoch l) (kept_of s earlier).history.living refl refl refl h (none_ended s e earlier)
 
 -- ---- an end that is kept is the one that the lines tell
 
-abbrev IsEndOf : Script → List Line → Option ℕ → Option ℕ → Type 0
+abbrev pub IsEndOf : Script → List Line → Option ℕ → Option ℕ → Type 0
 IsEndOf s lines None ended = Unit {0}
 IsEndOf s lines (Some e) ended = ended ≡ ended_at s e lines
 
@@ -108,11 +108,11 @@ end_step s l earlier (Some e) ended p =
 
 -- ---- operations
 
-abbrev EndBegun : Script → List Line → Option Begun → Type 0
+abbrev pub EndBegun : Script → List Line → Option Begun → Type 0
 EndBegun s lines None = Unit {0}
 EndBegun s lines (Some b) = IsEndOf s lines b.epoch b.ended
 
-abbrev EndJob : Script → List Line → ℕ → Job → Type 0
+abbrev pub EndJob : Script → List Line → ℕ → Job → Type 0
 EndJob s lines i job = EndBegun s lines job.begun
 
 end_map : (s : Script) (lines : List Line) (f : Begun → Begun) → ((b : Begun) → IsEndOf s lines b.epoch b.ended → IsEndOf s lines (f b).epoch (f b).ended) → (o : Option Begun) → EndBegun s lines o → EndBegun s lines (option_map f o)
@@ -164,7 +164,7 @@ first_begun zero i = refl
 first_begun (suc n) zero = refl
 first_begun (suc n) (suc i) = first_begun n i
 
-begun_ends : (s : Script) (lines : List Line) (i : ℕ) → EndJob s lines i (job_of i (kept_of s lines).jobs)
+pub begun_ends : (s : Script) (lines : List Line) (i : ℕ) → EndJob s lines i (job_of i (kept_of s lines).jobs)
 begun_ends s [] i = subst (λ (o : Option Begun). EndBegun s [] o) (sym (first_begun (actor_count s + 1) i)) tt
 begun_ends s (l ∷ earlier) i = line_end s earlier (begun_ends s earlier) l i
 

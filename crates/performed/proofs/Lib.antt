@@ -70,3 +70,4 @@ pub mod EpochNames
 pub mod SteadyArmed
 pub mod SteadyEvents
 pub mod SteadyShown
+pub mod EpochBegun

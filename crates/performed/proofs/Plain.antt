@@ -4,7 +4,7 @@ use Rattle.std.proofs.Common.{◌≡◌, ℕ, zero, suc, ◌+◌, ◌≤◌, ◌
 use Rattle.std.specs.Prelude.{nat_lt, nat_le, option_map, slice_get, unwrap_or}
 use Rattle.std.specs.List.{list_all}
 use Rattle.std.proofs.lemmas.Bool.{and_parts, eqb-true, ltb-true, leb-true}
-use Rattle.apdu.specs.Words.{is_between, is_empty, is_one_of, or_else}
+use Rattle.apdu.specs.Words.{is_between, is_one_of, or_else}
 use Rattle.apdu.specs.Values.{CommandValue}
 use Rattle.apdu.specs.Apdu.{is_update_ins, is_success, wants_more, select_ins}
 use Rattle.script_reader.specs.declared.types.Script.{Script}

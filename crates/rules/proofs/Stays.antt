@@ -10,7 +10,7 @@ use Rattle.card_model.specs.declared.world.FileState.{FileState}
 use Rattle.card_model.specs.declared.world.Change.{Change}
 use Rattle.card_model.specs.declared.world.CardState.{CardState}
 use Rattle.card_model.specs.declared.world.World.{World}
-use Rattle.card_model.specs.Card.{file_at, rows_of}
+use Rattle.card_model.specs.Card.{file_at, file_of, rows_of}
 use Rattle.card_model.specs.Step.{on_card, card_inside, step}
 use Rattle.card_effects.specs.Effect.{Effect}
 use Rattle.card_effects.proofs.Basic.{effect_aids}
@@ -79,6 +79,20 @@ module _ (s : Script) (lines : List Line) (a : ℕ) (c : CommandValue) (r : Resp
 
   abbrev touch : Touch
   touch = (facts_of s (line.Exchange a c r) k).touch
+
+  -- what the card holds under a path that the command does not spoil
+  pub file_stays : (path : List ℕ) → is_spoiled touch k.selected path ≡ false → (old new : CardState) → card_inside w ≡ Some old → card_inside (step w c).0 ≡ Some new → file_of path new ≡ file_of path old
+  file_stays path h old new before behind =
+      let t : AnswersRight w c r = answers_right w a c r now in
+      let p : CardState × ResponseValue = on_card w.changes t.card c in
+      let raw : Bool = is_raw_line s (line.Exchange a c r) k.jobs in
+      let unspoiled : is_spoiled (touch_exchanged raw k.selected c p.1) k.selected path ≡ false = subst (λ (x : ResponseValue). is_spoiled (touch_exchanged raw k.selected c x) k.selected path ≡ false) t.response h in
+      let e : Effect w.changes t.card c p = effect w.changes t.card c in
+      let same : file_at path p.0 ≡ file_at path t.card = spared w.changes t.card c p e (worlds_sane s lines (sane_script s rules)).changes k.selected (kept_agrees s lines rules right t.card t.inside).selected raw path unspoiled in
+      ap (file_of path) (the_card new p.0 (sym behind ∙ t.behind)) ∙ file_of_same t.card p.0 path (effect_aids w.changes t.card c p e) same ∙ ap (file_of path) (the_card t.card old (sym t.inside ∙ before))
+    where
+      the_card : (x y : CardState) → Some x ≡ Some y → x ≡ y
+      the_card x y q = cc
 
   pub stays_shown : (f : ℕ) → is_one_of f all_families ≡ true → list_any (is_spoiled touch k.selected) (family_paths f) ≡ false → shown_in (step w c).0 f ≡ shown_in w f
   stays_shown f one h =
