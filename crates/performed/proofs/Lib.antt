@@ -31,6 +31,8 @@ pub mod EditsFinal
 pub mod EditsCard
 pub mod EditsDecides
 pub mod EditsUndying
+pub mod EditsPlan
+pub mod EditsState
 pub mod CalmArmed
 pub mod CalmManage
 pub mod CalmHeld
