@@ -33,6 +33,8 @@ pub mod EditsDecides
 pub mod EditsUndying
 pub mod EditsPlan
 pub mod EditsState
+pub mod EditsSends
+pub mod EditsSteps
 pub mod CalmArmed
 pub mod CalmManage
 pub mod CalmHeld
