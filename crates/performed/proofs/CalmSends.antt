@@ -91,7 +91,7 @@ same_le None (Some b) h = absurd (true≢false (sym h))
 same_le (Some a) None h = absurd (true≢false (sym h))
 same_le (Some a) (Some b) h = ap (λ (n : ℕ). Some n) (eqb-true a b h)
 
-command_is : (c d : CommandValue) → same_command c d ≡ true → c ≡ d
+pub command_is : (c d : CommandValue) → same_command c d ≡ true → c ≡ d
 command_is c d h =
     let q5 = and_parts ((c.class == d.class) && (c.ins == d.ins) && (c.p1 == d.p1) && (c.p2 == d.p2) && same_bytes c.body d.body) (same_number c.le d.le) h in
     let q4 = and_parts ((c.class == d.class) && (c.ins == d.ins) && (c.p1 == d.p1) && (c.p2 == d.p2)) (same_bytes c.body d.body) q5.0 in
@@ -139,7 +139,7 @@ exchange_with_le : (c first : CommandValue) (n : ℕ) → (c.ins == verify_ins) 
 exchange_with_le c first n h (inl f) = inl (with_other_le c first n h f)
 exchange_with_le c first n h (inr g) = inr g
 
-exchange_by : (b : Bool) (c first : CommandValue) (n : ℕ) → (c.ins == verify_ins) ≡ false → IsExchangeOf first c → IsExchangeOf first (if b then get_response_for c n else with_le n c)
+pub exchange_by : (b : Bool) (c first : CommandValue) (n : ℕ) → (c.ins == verify_ins) ≡ false → IsExchangeOf first c → IsExchangeOf first (if b then get_response_for c n else with_le n c)
 exchange_by true c first n h f = inr refl
 exchange_by false c first n h f = exchange_with_le c first n h f
 

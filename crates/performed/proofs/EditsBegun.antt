@@ -1,7 +1,7 @@
 -- What a line makes of the operation that an actor has begun.
 use Rattle.std.proofs.Common.{◌≡◌, ◌⊎◌, inl, inr, ℕ, zero, suc, ◌+◌, ◌==◌, Bool, true, false, if◌then◌else◌, Option, Some, None, List, refl, sym, ap, ◌∙◌, subst, true≢false}
 use Rattle.std.specs.Prelude.{option_map, slice_get, unwrap_or}
-use Rattle.std.proofs.lemmas.Bool.{eqb-true}
+use Rattle.std.proofs.lemmas.Bool.{eqb-true, eq-eqb}
 use Rattle.apdu.specs.Values.{CommandValue, ResponseValue}
 use Rattle.script_reader.specs.declared.types.Script.{Script}
 use Rattle.report.specs.declared.answer.Answer.{Answer}
@@ -103,3 +103,33 @@ begun_stays s l k i b other h = ap (λ (o : Option Job). (unwrap_or o first_job)
     by_place (Some x) h =
         by_own (own_job s l k (facts_of s l k) (decision_at s l k).attempt (job_beside l k.history.epoch (facts_of s l k) k.selected x)) (job_beside l k.history.epoch (facts_of s l k) k.selected x) (is_own i l) other
         ∙ ap (option_map (near s l k)) h
+
+-- what its actor's own line makes of it
+own_begun : (s : Script) (l : Line) (k : Kept) (i : ℕ) (b : Begun) → is_own i l ≡ true → begun_of i k.jobs ≡ Some b → (x : Job) × ((x.begun ≡ Some b) × (begun_of i (kept_after s l k).jobs ≡ (own_job s l k (facts_of s l k) (decision_at s l k).attempt (job_beside l k.history.epoch (facts_of s l k) k.selected x)).begun))
+own_begun s l k i b own h = by_place (slice_get k.jobs i) refl h
+  where
+    by_own : (y z : Job) (t : Bool) → t ≡ true → (if t then y else z).begun ≡ y.begun
+    by_own y z true e = refl
+    by_own y z false e = absurd (true≢false (sym e))
+
+    by_place : (o : Option Job) → slice_get k.jobs i ≡ o → (unwrap_or o first_job).begun ≡ Some b → (x : Job) × ((x.begun ≡ Some b) × (begun_of i (kept_after s l k).jobs ≡ (own_job s l k (facts_of s l k) (decision_at s l k).attempt (job_beside l k.history.epoch (facts_of s l k) k.selected x)).begun))
+    by_place None e q = absurd (cc)
+    by_place (Some x) e q = (x, (q,
+        ap (λ (o : Option Job). (unwrap_or o first_job).begun) (job_behind s l k i)
+        ∙ ap (λ (o : Option Job). (unwrap_or (option_map (behind_job s l k i) o) first_job).begun) e
+        ∙ by_own (own_job s l k (facts_of s l k) (decision_at s l k).attempt (job_beside l k.history.epoch (facts_of s l k) k.selected x)) (job_beside l k.history.epoch (facts_of s l k) k.selected x) (is_own i l) own))
+
+self : (n : ℕ) → (n == n) ≡ true
+self n = eq-eqb n n refl
+
+pub begun_exchanges : (s : Script) (k : Kept) (a : ℕ) (c : CommandValue) (r : ResponseValue) (b : Begun) → begun_of a k.jobs ≡ Some b → begun_of a (kept_after s (line.Exchange a c r) k).jobs ≡ Some (begun_exchanged (edit_of (operation_now s a k.jobs)) k.selected k.chain (k.history.events + 1) c r (near s (line.Exchange a c r) k b))
+begun_exchanges s k a c r b h =
+    let l : Line = line.Exchange a c r in
+    let o = own_begun s l k a b (self a) h in
+    o.1.1 ∙ ap (λ (x : Option Begun). option_map (begun_exchanged (edit_of (operation_now s a k.jobs)) k.selected k.chain (k.history.events + 1) c r) (option_map (near s l k) x)) o.1.0
+
+pub begun_marks : (s : Script) (k : Kept) (a : ℕ) (b : Begun) → begun_of (suc a) k.jobs ≡ Some b → begun_of (suc a) (kept_after s (line.Turn (suc a)) k).jobs ≡ Some (begun_with (decision_at s (line.Turn (suc a)) k).attempt (near s (line.Turn (suc a)) k b))
+begun_marks s k a b h =
+    let l : Line = line.Turn (suc a) in
+    let o = own_begun s l k (suc a) b (self (suc a)) h in
+    o.1.1 ∙ ap (λ (x : Option Begun). option_map (begun_with (decision_at s l k).attempt) (option_map (near s l k) x)) o.1.0

@@ -30,6 +30,10 @@ pub mod EditsFinal
 pub mod EditsCard
 pub mod EditsDecides
 pub mod EditsUndying
+pub mod EditsPlan
+pub mod EditsState
+pub mod EditsSends
+pub mod EditsSteps
 pub mod CalmManage
 pub mod CalmHeld
 pub mod CalmMatch
