@@ -65,13 +65,13 @@ no_fetch changes card c p none (hands_over e d) = absurd (none_armed changes car
 
 -- ---- the card in the slot
 
--- what the slot gave to a command
+-- what the slot gave to a command that was no FETCH that succeeded
 pub record Answered (w : World) (c : CommandValue) (r : ResponseValue) : Type 0 where
   pub card : CardState
   pub inside : card_inside w ≡ Some card
   pub behind : card_inside (step w c).0 ≡ Some (on_card w.changes card c).0
   pub status : r.sw ≡ (on_card w.changes card c).1.sw
-  pub unarmed : card.armed ≡ []
+  pub fetched : ((c.ins == fetch_ins) && is_success (on_card w.changes card c).1.sw) ≡ false
   pub does : Effect w.changes card c (on_card w.changes card c)
 
 pub answered_of : (w : World) (a : ℕ) (c : CommandValue) (r : ResponseValue) → AllUnarmed w.cards → has_right_response w (line.Exchange a c r) ≡ true → Answered w c r
@@ -82,7 +82,21 @@ answered_of w a c r unarmed right =
       inside = t.1;
       behind = steps_card w t.0 c t.1;
       status = told_status w a c r t.0 t.1 right;
-      unarmed = inside_unarmed w t.0 unarmed t.1;
+      fetched = no_fetch w.changes t.0 c (on_card w.changes t.0 c) (inside_unarmed w t.0 unarmed t.1) (effect w.changes t.0 c);
+      does = effect w.changes t.0 c;
+    }
+
+-- to one that was no FETCH that succeeded
+pub answered_by : (w : World) (a : ℕ) (c : CommandValue) (r : ResponseValue) → ((c.ins == fetch_ins) && is_success r.sw) ≡ false → has_right_response w (line.Exchange a c r) ≡ true → Answered w c r
+answered_by w a c r none right =
+    let t = card_there w c r right in
+    let status : r.sw ≡ (on_card w.changes t.0 c).1.sw = told_status w a c r t.0 t.1 right in
+    record {
+      card = t.0;
+      inside = t.1;
+      behind = steps_card w t.0 c t.1;
+      status = status;
+      fetched = sym (ap (λ (sw : ℕ). (c.ins == fetch_ins) && is_success sw) status) ∙ none;
       does = effect w.changes t.0 c;
     }
 
@@ -94,7 +108,7 @@ module _ (w : World) (c : CommandValue) (r : ResponseValue) (t : Answered w c r)
   pub no_refresh : handed_refresh c r ≡ None
   no_refresh =
       ap (λ (b : Bool). elim b [ true ↦ refresh_of (read_proactive r.body) | false ↦ None ])
-      (ap (λ (sw : ℕ). (c.ins == fetch_ins) && is_success sw) t.status ∙ no_fetch w.changes t.card c p t.unarmed t.does)
+      (ap (λ (sw : ℕ). (c.ins == fetch_ins) && is_success sw) t.status ∙ t.fetched)
 
   -- an UPDATE is answered at once
   pub update_answered : is_update_ins c.ins ≡ true → wants_more r.sw ≡ false
@@ -121,7 +135,7 @@ module _ (w : World) (c : CommandValue) (r : ResponseValue) (t : Answered w c r)
   -- where no file changes
   module _ (kept : is_update c r ≡ false) where
     pub same_files : p.0.files ≡ t.card.files
-    same_files = files_stay w.changes t.card c p (undone kept) t.unarmed t.does
+    same_files = files_stay w.changes t.card c p (undone kept) t.fetched t.does
 
     pub view_same : (path : List ℕ) → view_in (step w c).0 path ≡ view_in w path
     view_same path =

@@ -2,10 +2,10 @@
 use Rattle.std.proofs.Common.{◌≡◌, ℕ, zero, suc, ◌+◌, ◌==◌, ◌&&◌, ◌||◌, Bool, true, false, Option, Some, None, List, [], ◌∷◌, map, refl, ap, sym, ◌∙◌, subst, true≢false}
 use Rattle.std.specs.Prelude.{slice_get, slice_set, option_and_then, is_some, is_none}
 use Rattle.std.specs.List.{list_all}
-use Rattle.std.proofs.lemmas.Bool.{and_parts, and_from, eqb-true}
+use Rattle.std.proofs.lemmas.Bool.{and_parts, and_from, eqb-true, eq-eqb}
 use Rattle.apdu.specs.Values.{CommandValue, ResponseValue}
 use Rattle.apdu.specs.Words.{is_empty, same_bytes}
-use Rattle.apdu.specs.Apdu.{is_update_ins, is_success, same_response}
+use Rattle.apdu.specs.Apdu.{fetch_ins, is_update_ins, is_success, same_response}
 use Rattle.card_model.specs.declared.world.Fault.{Fault}
 use Rattle.card_model.specs.declared.world.FileState.{FileState}
 use Rattle.card_model.specs.declared.world.Change.{Change}
@@ -127,8 +127,8 @@ inside_unarmed w card t h = by_place w.inside h
 pub none_armed : (changes : List Change) (card : CardState) (change : Change) → card.armed ≡ [] → first_armed changes card ≡ Some change → ⊥
 none_armed changes card change h e = absurd (let n : first_armed changes card ≡ None = ap (λ (armed : List ℕ). option_and_then (slice_get changes) (slice_get armed 0)) h in cc)
 
--- a command that is no UPDATE that was done
-pub files_stay : (changes : List Change) (card : CardState) (c : CommandValue) (p : CardState × ResponseValue) → (is_update_ins c.ins && is_success p.1.sw) ≡ false → card.armed ≡ [] → Effect changes card c p → p.0.files ≡ card.files
+-- a command that is no UPDATE that was done, and handed over no change
+pub files_stay : (changes : List Change) (card : CardState) (c : CommandValue) (p : CardState × ResponseValue) → (is_update_ins c.ins && is_success p.1.sw) ≡ false → ((c.ins == fetch_ins) && is_success p.1.sw) ≡ false → Effect changes card c p → p.0.files ≡ card.files
 files_stay changes card c p h none (quiet k e) = k.files
 files_stay changes card c p h none (refuses_select number place channel on e d) = d.keeps.files
 files_stay changes card c p h none (reads_record number place channel on e d) = d.keeps.files
@@ -139,7 +139,7 @@ files_stay changes card c p h none (updates_record number place channel on e d) 
 files_stay changes card c p h none (updates_binary number place channel on e d) = absurd (true≢false (sym (and_from (is_update_ins c.ins) (is_success p.1.sw) (ap is_update_ins e) d.updates.status) ∙ h))
 files_stay changes card c p h none (opens e d) = d.files
 files_stay changes card c p h none (closes e d) = d.files
-files_stay changes card c p h none (hands_over e d) = absurd (none_armed changes card d.change none d.armed)
+files_stay changes card c p h none (hands_over e d) = absurd (true≢false (sym (and_from (c.ins == fetch_ins) (is_success p.1.sw) (eq-eqb c.ins fetch_ins e) (ap (λ (x : ResponseValue). is_success x.sw) d.response)) ∙ none))
 
 -- what the card with these files and applications shows
 abbrev text_with : CardState → List FileState → List (List ℕ) → ℕ → List ℕ

@@ -26,7 +26,7 @@ use Rattle.rules.specs.declared.kept.Kept.{Kept}
 use Rattle.rules.specs.After.{facts_of, is_raw_line, kept_of}
 use Rattle.rules.specs.Agreement.{are_responses_right, IsSelected}
 use Rattle.rules.specs.Rules.{has_right_response}
-use Rattle.rules.specs.State.{content_on, shown_in, shown_on, world_of}
+use Rattle.rules.specs.State.{content_on, shown_in, shown_on, view_in, world_of}
 use Rattle.rules.proofs.Sane.{FineChanges}
 use Rattle.rules.proofs.Scripts.{worlds_sane}
 use Rattle.rules.proofs.Wellformed.{sane_script}
@@ -93,6 +93,15 @@ module _ (s : Script) (lines : List Line) (a : ℕ) (c : CommandValue) (r : Resp
     where
       the_card : (x y : CardState) → Some x ≡ Some y → x ≡ y
       the_card x y q = cc
+
+  -- and so what is read of it
+  pub view_stays : (path : List ℕ) → is_spoiled touch k.selected path ≡ false → view_in (step w c).0 path ≡ view_in w path
+  view_stays path h =
+      let t : AnswersRight w c r = answers_right w a c r now in
+      let new : CardState = (on_card w.changes t.card c).0 in
+      ap (λ (o : Option CardState). content_on o path) t.behind
+      ∙ ap (λ (o : Option FileState). unwrap_or (option_map (λ (x : FileState). x.rows) o) missing) (file_stays path h t.card new t.inside t.behind)
+      ∙ sym (ap (λ (o : Option CardState). content_on o path) t.inside)
 
   pub stays_shown : (f : ℕ) → is_one_of f all_families ≡ true → list_any (is_spoiled touch k.selected) (family_paths f) ≡ false → shown_in (step w c).0 f ≡ shown_in w f
   stays_shown f one h =
