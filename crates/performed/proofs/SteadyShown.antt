@@ -141,17 +141,6 @@ files_stay changes card c p h none (opens e d) = d.files
 files_stay changes card c p h none (closes e d) = d.files
 files_stay changes card c p h none (hands_over e d) = absurd (true≢false (sym (and_from (c.ins == fetch_ins) (is_success p.1.sw) (eq-eqb c.ins fetch_ins e) (ap (λ (x : ResponseValue). is_success x.sw) d.response)) ∙ none))
 
--- what the card with these files and applications shows
-abbrev text_with : CardState → List FileState → List (List ℕ) → ℕ → List ℕ
-text_with card files aids f = shown f (content_on (Some (record card { files = files; aids = aids })))
-
-text_same : (old new : CardState) (f : ℕ) → new.files ≡ old.files → new.aids ≡ old.aids → shown f (content_on (Some new)) ≡ shown f (content_on (Some old))
-text_same old new f files aids = ap (λ (x : List FileState). text_with new x new.aids f) files ∙ ap (λ (x : List (List ℕ)). text_with new old.files x f) aids
-
--- the card in the slot stays as far as files and applications go
-shown_same : (w v : World) (old new : CardState) (f : ℕ) → card_inside w ≡ Some old → card_inside v ≡ Some new → new.files ≡ old.files → new.aids ≡ old.aids → shown_in v f ≡ shown_in w f
-shown_same w v old new f before behind files aids = ap (λ (o : Option CardState). shown_on o f) behind ∙ ap (λ (text : List ℕ). Some text) (text_same old new f files aids) ∙ sym (ap (λ (o : Option CardState). shown_on o f) before)
-
 answers_at : (w : World) (j : ℕ) (card : CardState) (c : CommandValue) → slice_get w.cards j ≡ Some card → (o : Option CardState) → slice_get w.cards j ≡ o → (step_of_card w j o c).1 ≡ (on_card w.changes card c).1
 answers_at w j card c h None e = absurd (cc)
 answers_at w j card c h (Some k) e = let same : k ≡ card = cc in ap (λ (x : CardState). (on_card w.changes x c).1) same
@@ -167,40 +156,9 @@ steps_answer w card c h = answers_in w card c w.inside h
 same_status : (a b : ResponseValue) → same_response a b ≡ true → a.sw ≡ b.sw
 same_status a b h = eqb-true a.sw b.sw (and_parts (same_bytes a.body b.body) (a.sw == b.sw) h).1
 
-pub some_shown : (o : Option CardState) (f : ℕ) (text : List ℕ) → same_shown (shown_on o f) (Some text) ≡ true → is_some o ≡ true
-some_shown None f text h = dead h
-some_shown (Some card) f text h = refl
-
 -- the card in the slot gave the status
 pub told_status : (w : World) (a : ℕ) (c : CommandValue) (r : ResponseValue) (card : CardState) → card_inside w ≡ Some card → has_right_response w (line.Exchange a c r) ≡ true → r.sw ≡ (on_card w.changes card c).1.sw
 told_status w a c r card inside right = same_status r (step w c).1 (and_parts (is_some (card_inside w)) (same_response r (step w c).1) right).1 ∙ ap (λ (x : ResponseValue). x.sw) (steps_answer w card c inside)
-
-pub step_shown : (w : World) (a : ℕ) (c : CommandValue) (r : ResponseValue) (f : ℕ) → AllUnarmed w.cards → is_update c r ≡ false → has_right_response w (line.Exchange a c r) ≡ true → shown_in (step w c).0 f ≡ shown_in w f
-step_shown w a c r f unarmed h right =
-    let t = card_there w c r right in
-    let p : CardState × ResponseValue = on_card w.changes t.0 c in
-    let does : Effect w.changes t.0 c p = effect w.changes t.0 c in
-    let undone : (is_update_ins c.ins && is_success p.1.sw) ≡ false = ap (λ (sw : ℕ). is_update_ins c.ins && is_success sw) (sym (told_status w a c r t.0 t.1 right)) ∙ h in
-    shown_same w (step w c).0 t.0 p.0 f t.1 (steps_card w t.0 c t.1) (files_stay w.changes t.0 c p undone (inside_unarmed w t.0 unarmed t.1) does) (effect_aids w.changes t.0 c p does)
-
-pub step_inside : (w : World) (a : ℕ) (c : CommandValue) (r : ResponseValue) → has_right_response w (line.Exchange a c r) ≡ true → is_some (card_inside (step w c).0) ≡ true
-step_inside w a c r right = let t = card_there w c r right in ap is_some (steps_card w t.0 c t.1)
-
-reset_by : (w : World) (card : CardState) (o : Option ℕ) → option_and_then (λ j. slice_get w.cards j) o ≡ Some card → card_inside (reset_in w o) ≡ Some (reset_card card)
-reset_by w card None e = absurd (cc)
-reset_by w card (Some j) e = reset_at (slice_get w.cards j) refl
-  where
-    reset_at : (o : Option CardState) → slice_get w.cards j ≡ o → card_inside (inserted w j o) ≡ Some (reset_card card)
-    reset_at None h = absurd (cc)
-    reset_at (Some k) h = let same : k ≡ card = cc in get_set w.cards j k (reset_card k) h ∙ ap (λ (x : CardState). Some (reset_card x)) same
-
-reset_inside : (w : World) (card : CardState) → card_inside w ≡ Some card → card_inside (after_reset w) ≡ Some (reset_card card)
-unfolding after_reset
-reset_inside w card h = reset_by w card w.inside h
-
-pub reset_some : (w : World) (o : Option CardState) → card_inside w ≡ o → is_some o ≡ true → is_some (card_inside (after_reset w)) ≡ true
-reset_some w None e h = dead h
-reset_some w (Some card) e h = ap is_some (reset_inside w card e)
 
 -- ---- no call fails, but a reset of an empty slot
 
