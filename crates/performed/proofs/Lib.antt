@@ -35,6 +35,7 @@ pub mod EditsPlan
 pub mod EditsState
 pub mod EditsSends
 pub mod EditsSteps
+pub mod EditsMarks
 pub mod CalmArmed
 pub mod CalmManage
 pub mod CalmHeld
