@@ -1,6 +1,7 @@
 -- How far an edit is where its turn begins, and what that turn has to write.
 use Rattle.std.proofs.Common.{◌≡◌, ◌⊎◌, inl, inr, ℕ, zero, suc, ◌+◌, ◌==◌, ◌&&◌, not, Bool, true, false, if◌then◌else◌, Option, Some, None, is_some, Result, Ok, Err, List, [], ◌∷◌, ◌++◌, refl, sym, ap, ◌∙◌, subst, true≢false}
 use Rattle.std.specs.Prelude.{slice_get, option_map}
+use Rattle.std.specs.List.{filter_map}
 use Rattle.apdu.specs.Words.{or_else}
 use Rattle.fcp.specs.Content.{Content}
 use Rattle.fcp.specs.declared.rule.Need.{Need}
@@ -24,7 +25,7 @@ use Rattle.epoch_cache.specs.Cache.{first_missing, view_of_files}
 use Rattle.editor.specs.declared.editing.Attempt.{Attempt}
 use Rattle.editor.specs.declared.editing.Decided.{Decided}
 use Rattle.editor.specs.declared.editing.Editing.{Editing}
-use Rattle.editor.specs.Editing.{next_update, planned, edit_paths, owed_update, owed_of, update_need, card_need, with_attempt}
+use Rattle.editor.specs.Editing.{next_update, planned, edit_paths, rule_path, owed_update, owed_of, update_need, card_need, with_attempt}
 use Rattle.rules.specs.declared.kept.Begun.{Begun}
 use Rattle.rules.specs.declared.kept.Decision.{Decision}
 use Rattle.rules.specs.declared.kept.Kept.{Kept}
@@ -190,12 +191,147 @@ module _ (s : Script) (w : World) (k new : Kept) (i f : ℕ) (e : Edit) (book : 
         phase = begins t.stage t.chain;
       }
 
-  goes_by : (a : Attempt) → old.attempt ≡ Some a → (b : Bool) → d ≡ decides (if b then writes else rests) → Begins
-  goes_by a h true x = record { edit = same_edit (ap (λ (y : Decision). y.attempt) x); active = λ q. by_edit t.before }
+  reading_by : (o : Option (List ℕ)) → d ≡ decides (elim o [ None ↦ rests | Some p ↦ reads p ]) → Begins
+  reading_by None x = resting rests x refl
+  reading_by (Some p) x = resting (reads p) x refl
+
+  -- ---- behind the deciding success
+
+  owed_by : (b : Bool) → is_some (owed_update true old) ≡ b → is_some old.decided ≡ true → d ≡ decides (if b then writes else reads_first k.files (family_paths f)) → Begins
+  owed_by false o dec x = reading_by (first_missing k.files (family_paths f)) x
+  owed_by true o dec x = record { edit = same_edit (ap (λ (y : Decision). y.attempt) x); active = λ q. by_edit t.before }
     where
       by_edit : EditAt w k i f e epoch old → IsActive s w new
-      by_edit (unplanned z n) = absurd (let q : Some a ≡ None = sym h ∙ z in cc)
+      by_edit (unplanned z n) = never (sym (ap is_some n) ∙ dec)
       by_edit (writing z y q) = active_old (ap (λ (y : Decision). y.attempt) x) z y q
       by_edit (refused z actor came) = absurd (t.unrefused z actor came)
-      by_edit (finished z lives owed) = absurd (?)
-  goes_by a h false x = resting rests x refl
+      by_edit (finished z lives owed) = never (sym (ap is_some owed) ∙ o)
+
+  -- ---- before it
+
+  module _ (none : old.decided ≡ None) where
+    goes_by : (a : Attempt) → old.attempt ≡ Some a → (b : Bool) → d ≡ decides (if b then writes else rests) → Begins
+    goes_by a h true x = record { edit = same_edit (ap (λ (y : Decision). y.attempt) x); active = λ q. by_edit t.before }
+      where
+        by_edit : EditAt w k i f e epoch old → IsActive s w new
+        by_edit (unplanned z n) = absurd (let q : Some a ≡ None = sym h ∙ z in cc)
+        by_edit (writing z y q) = active_old (ap (λ (y : Decision). y.attempt) x) z y q
+        by_edit (refused z actor came) = absurd (t.unrefused z actor came)
+        by_edit (finished z lives owed) = never (sym (ap is_some none) ∙ z)
+    goes_by a h false x = resting rests x refl
+
+    module _ (plan : Plan) (living : lives_in k.history epoch ≡ true) (x : d ≡ record { work = writes; attempt = Some (planned f plan (edit_paths k.files f)) }) (lack : first_lack k.history i k.sessions k.files f (plan_updates plan) ≡ None) where
+      abbrev made : Attempt
+      made = planned f plan (edit_paths k.files f)
+
+      abbrev first : HasFirst plan
+      first = has_first plan
+
+      card_is : (card : CardState) × (card_inside w ≡ Some card)
+      card_is = t.inside living
+
+      for_card : IsPlanned card_is.0 k f e d
+      for_card = t.planned card_is.0 card_is.1 (ap is_planned x)
+
+      plan_is : plan_edit e (files_in w f).main (files_in w f).ext ≡ Ok plan
+      plan_is =
+          ap (λ (o : Option CardState). plan_edit e (content_on o (family_path f 0)) (content_on o (family_path f 1))) card_is.1
+          ∙ for_card.plan made (ap (λ (y : Decision). y.attempt) x)
+
+      file : (first.update.file ≡ 0) ⊎ (first.update.file ≡ 1)
+      file = file_of_place e (files_in w f) plan (plan_files e (files_in w f).main (files_in w f).ext plan plan_is) first.place first.update first.at
+
+      need_is : update_need k.files (family_path f first.update.file) ≡ card_need card_is.0 (family_path f first.update.file)
+      need_is = by_file file
+        where
+          by_file : (first.update.file ≡ 0) ⊎ (first.update.file ≡ 1) → update_need k.files (family_path f first.update.file) ≡ card_need card_is.0 (family_path f first.update.file)
+          by_file (inl n) = subst (λ (m : ℕ). update_need k.files (family_path f m) ≡ card_need card_is.0 (family_path f m)) (sym n) for_card.main_need
+          by_file (inr n) = subst (λ (m : ℕ). update_need k.files (family_path f m) ≡ card_need card_is.0 (family_path f m)) (sym n) for_card.extension_need
+
+      begun_work : new.turn.work ≡ writes
+      begun_work = t.work ∙ ap (λ (y : Decision). y.work) x
+
+      editing_is : now.editing ≡ record old { attempt = Some made }
+      editing_is = t.editing ∙ ap (λ (y : Decision). with_attempt y.attempt old) x
+
+      abbrev plan_writing : (decided : Option Decided) → decided ≡ None → IsWriting w new i f e now.epoch decided made
+      plan_writing decided un = record {
+        family = refl;
+        rest = filter_map (rule_path k.files) (family_paths f);
+        paths = refl;
+        still = refl;
+        lives = t.lives now.epoch ∙ ap (lives_in k.history) t.since ∙ living;
+        place = first.place;
+        update = first.update;
+        at = first.at;
+        sent = sym first.sent;
+        behind = ap is_some un ∙ sym first.undecided;
+        old = files_in w f;
+        plan = plan_is;
+        now = sym (first.files (files_in w f));
+        fresh = λ z. record { actor = t.actor; work = begun_work; goes = ap is_over t.stage };
+      }
+
+      decided_none : now.editing.decided ≡ None
+      decided_none = ap (λ (y : Editing). y.decided) editing_is ∙ none
+
+      attempt_is : now.editing.attempt ≡ Some made
+      attempt_is = ap (λ (y : Editing). y.attempt) editing_is
+
+      plan_allowed : Allowed w new i (family_path f first.update.file)
+      plan_allowed card inside =
+          let same : Some card ≡ Some card_is.0 = sym inside ∙ card_is.1 in
+          let is : card ≡ card_is.0 = cc in
+          t.lacks (card_need card (family_path f first.update.file))
+          ∙ ap (λ (y : CardState). lacking_key k.history i k.sessions (card_need y (family_path f first.update.file))) is
+          ∙ ap (lacking_key k.history i k.sessions) (sym need_is)
+          ∙ plan_lacks k i f plan first lack
+
+      planned_begins : Begins
+      planned_begins = record {
+        edit = writing made attempt_is (plan_writing now.editing.decided decided_none);
+        active = λ q. record {
+          who = i;
+          actor = t.actor;
+          begun = now;
+          here = t.here;
+          family = f;
+          edit = e;
+          op = t.op;
+          attempt = made;
+          there = attempt_is;
+          write = plan_writing now.editing.decided decided_none;
+          came = t.came;
+          unsent = t.unsent;
+          allowed = λ z. plan_allowed;
+          phase = begins t.stage t.chain;
+        };
+      }
+
+    begins_by : (plan : Plan) (o : Option ℕ) → first_lack k.history i k.sessions k.files f (plan_updates plan) ≡ o → lives_in k.history epoch ≡ true → d ≡ elim o [ Some key ↦ decides (lacks key) | None ↦ record { work = writes; attempt = Some (planned f plan (edit_paths k.files f)) } ] → Begins
+    begins_by plan (Some key) lack living x = resting (lacks key) x refl
+    begins_by plan None lack living x = planned_begins plan living x lack
+
+    plans_by : (r : Result Plan PlanError) → lives_in k.history epoch ≡ true → d ≡ elim r [ Err refusal ↦ decides (refuses refusal) | Ok plan ↦ begins_plan k i f plan (edit_paths k.files f) ] → Begins
+    plans_by (Err refusal) living x = resting (refuses refusal) x refl
+    plans_by (Ok plan) living x = begins_by plan (first_lack k.history i k.sessions k.files f (plan_updates plan)) refl living x
+
+    attempts_by : (o : Option Attempt) → old.attempt ≡ o → lives_in k.history epoch ≡ true → d ≡ attempts k i f e o (edit_paths k.files f) → Begins
+    attempts_by (Some a) h living x = goes_by a h (is_some (next_update a)) x
+    attempts_by None h living x = plans_by (family_plan f e (view_of_files k.files)) living x
+
+    missing_by : (o : Option (List ℕ)) → lives_in k.history epoch ≡ true → d ≡ elim o [ Some p ↦ decides (reads p) | None ↦ attempts k i f e old.attempt (edit_paths k.files f) ] → Begins
+    missing_by (Some p) living x = resting (reads p) x refl
+    missing_by None living x = attempts_by old.attempt refl living x
+
+  decided_by : (o : Option Decided) → old.decided ≡ o → lives_in k.history epoch ≡ true → d ≡ elim o [ None ↦ undecided_work k i f e old.attempt | Some q ↦ decides (decided_work k f old) ] → Begins
+  decided_by None h living x = missing_by h (first_missing k.files (edit_paths k.files f)) living x
+  decided_by (Some q) h living x = owed_by (is_some (owed_update true old)) refl (ap is_some h) x
+
+  living_by : (b : Bool) → lives_in k.history epoch ≡ b → d ≡ elim b [ true ↦ edit_work k i f e old | false ↦ decides rests ] → Begins
+  living_by true h x = decided_by old.decided refl h x
+  living_by false h x = resting rests x refl
+
+  -- how far the edit is where its turn begins, and what its turn has to write
+  pub turn_begins : Begins
+  turn_begins = living_by (lives_in k.history epoch) refl t.decides
