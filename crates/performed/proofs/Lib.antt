@@ -34,6 +34,7 @@ pub mod EditsPlan
 pub mod EditsState
 pub mod EditsSends
 pub mod EditsSteps
+pub mod EditsMarks
 pub mod CalmManage
 pub mod CalmHeld
 pub mod CalmMatch
