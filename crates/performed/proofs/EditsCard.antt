@@ -1,7 +1,7 @@
 -- What a command does to the files of the card in the slot: nothing, unless it is an UPDATE that succeeded; and an UPDATE RECORD on the
 -- basic channel writes one row of the file that is current there.
-use Rattle.std.proofs.Common.{◌≡◌, ℕ, ◌-◌, ◌==◌, ◌&&◌, ◌||◌, Bool, true, false, if◌then◌else◌, Option, Some, None, List, [], ◌∷◌, refl, sym, ap, ◌∙◌, subst, true≢false}
-use Rattle.std.specs.Prelude.{slice_get, find, unwrap_or, option_map, option_and_then, is_some, is_none}
+use Rattle.std.proofs.Common.{◌≡◌, ℕ, ◌-◌, ◌==◌, ◌&&◌, ◌||◌, Bool, true, false, if◌then◌else◌, Option, Some, None, List, [], refl, sym, ap, ◌∙◌, subst, true≢false}
+use Rattle.std.specs.Prelude.{find, unwrap_or, option_map, is_none}
 use Rattle.std.proofs.lemmas.Bool.{and_parts, and_from, eqb-true}
 use Rattle.apdu.specs.Values.{CommandValue, ResponseValue}
 use Rattle.apdu.specs.Words.{same_bytes}
@@ -13,18 +13,18 @@ use Rattle.card_model.specs.declared.world.ChannelState.{ChannelState}
 use Rattle.card_model.specs.declared.world.Change.{Change}
 use Rattle.card_model.specs.declared.world.CardState.{CardState}
 use Rattle.card_model.specs.declared.world.World.{World}
-use Rattle.card_model.specs.Card.{has_path, has_number, is_in_application, usim_of, file_at, file_of, rows_of, rule_of, rule_record}
+use Rattle.card_model.specs.Card.{has_number, is_in_application, usim_of, file_at, rows_of}
 use Rattle.card_model.specs.Step.{on_card, step, card_inside}
 use Rattle.card_model.specs.Update.{with_record}
 use Rattle.card_effects.specs.Effect.{acted, acts, basic, IsOn, Effect, quiet, refuses_select, reads_record, reads_binary, gets, selects, updates_record, updates_binary, opens, closes, hands_over}
 use Rattle.card_effects.specs.Basic.{HasCurrent}
-use Rattle.card_effects.proofs.Basic.{plain_basic, place_found, place_passes, effect_aids}
+use Rattle.card_effects.proofs.Basic.{plain_basic, place_found, effect_aids}
 use Rattle.card_effects.proofs.Effects.{effect}
 use Rattle.card_effects.proofs.Files.{RowWritten, update_files}
 use Rattle.report.specs.declared.line.Line.TheVariants as line
 use Rattle.epoch_cache.specs.Cache.{handed_refresh, refresh_of, is_update}
 use Rattle.refresh_cmd.specs.Proactive.{read_proactive}
-use Rattle.editor.specs.Editing.{card_need, need_of_file}
+use Rattle.editor.specs.Editing.{card_need}
 use Rattle.rules.specs.State.{view_in, content_on}
 use Rattle.rules.specs.Rules.{has_right_response}
 

@@ -3,7 +3,7 @@ use Rattle.std.proofs.Common.{◌≡◌, ℕ, ◌+◌, ◌==◌, ◌||◌, not, 
 use Rattle.std.specs.Prelude.{nat_lt, nat_le, slice_get}
 use Rattle.apdu.specs.Values.{CommandValue, ResponseValue}
 use Rattle.apdu.specs.Words.{is_empty, or_else}
-use Rattle.apdu.specs.Apdu.{wants_more, has_more, wants_other_le, is_update_ins, channel_of}
+use Rattle.apdu.specs.Apdu.{wants_more, wants_other_le, is_update_ins, channel_of}
 use Rattle.apdu.specs.declared.class.ClassKind.{ClassKind}
 use Rattle.fcp.specs.Content.{first_row}
 use Rattle.fcp.specs.declared.rule.Need.{Need}

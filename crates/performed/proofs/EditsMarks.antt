@@ -1,31 +1,25 @@
 -- How far an edit is where its turn begins, and what that turn has to write.
-use Rattle.std.proofs.Common.{◌≡◌, ◌⊎◌, inl, inr, ℕ, zero, suc, ◌+◌, ◌==◌, ◌&&◌, not, Bool, true, false, if◌then◌else◌, Option, Some, None, is_some, Result, Ok, Err, List, [], ◌∷◌, ◌++◌, refl, sym, ap, ◌∙◌, subst, true≢false}
+use Rattle.std.proofs.Common.{◌≡◌, ◌⊎◌, inl, inr, ℕ, Bool, true, false, if◌then◌else◌, Option, Some, None, is_some, Result, Ok, Err, List, [], ◌∷◌, refl, sym, ap, ◌∙◌, subst, true≢false}
 use Rattle.std.specs.Prelude.{slice_get, option_map}
 use Rattle.std.specs.List.{filter_map}
 use Rattle.apdu.specs.Words.{or_else}
-use Rattle.fcp.specs.Content.{Content}
 use Rattle.fcp.specs.declared.rule.Need.{Need}
 use Rattle.card_model.specs.declared.world.CardState.{CardState}
 use Rattle.card_model.specs.declared.world.World.{World}
-use Rattle.card_model.specs.Card.{rows_of}
 use Rattle.card_model.specs.Step.{card_inside}
 use Rattle.script_reader.specs.declared.types.Script.{Script}
-use Rattle.script_reader.specs.declared.types.Operation.{Operation}
-use Rattle.script_reader.specs.declared.types.Operation.TheVariants as operation
 use Rattle.report.specs.declared.answer.Answer.{Answer}
-use Rattle.report.specs.declared.line.Line.{Line}
 use Rattle.adn.specs.declared.edit.Edit.{Edit}
 use Rattle.adn.specs.declared.edit.RowUpdate.{RowUpdate}
 use Rattle.adn.specs.declared.edit.Plan.{Plan}
 use Rattle.adn.specs.declared.edit.PlanError.{PlanError}
 use Rattle.families.specs.Families.{family_path, family_paths, family_plan}
-use Rattle.families.specs.Plans.{plan_edit, plan_updates, some_first}
-use Rattle.book_plans.specs.Phonebook.{Files}
+use Rattle.families.specs.Plans.{plan_edit, plan_updates}
 use Rattle.epoch_cache.specs.Cache.{first_missing, view_of_files}
 use Rattle.editor.specs.declared.editing.Attempt.{Attempt}
 use Rattle.editor.specs.declared.editing.Decided.{Decided}
 use Rattle.editor.specs.declared.editing.Editing.{Editing}
-use Rattle.editor.specs.Editing.{next_update, planned, edit_paths, rule_path, owed_update, owed_of, update_need, card_need, with_attempt}
+use Rattle.editor.specs.Editing.{next_update, planned, edit_paths, rule_path, owed_update, update_need, card_need, with_attempt}
 use Rattle.rules.specs.declared.kept.Begun.{Begun}
 use Rattle.rules.specs.declared.kept.Decision.{Decision}
 use Rattle.rules.specs.declared.kept.Kept.{Kept}
@@ -37,16 +31,16 @@ use Rattle.rules.specs.History.{lives_in}
 use Rattle.rules.specs.Editing.{lacks_for, first_lack}
 use Rattle.rules.specs.Sessions.{lacking_key}
 use Rattle.rules.specs.Kept.{begun_of, operation_at}
-use Rattle.rules.specs.Work.{decides, reads_first, goes_on, begins_plan, plans, attempts, undecided_work, decided_work, edit_work}
-use Rattle.rules.specs.After.{edit_of, begun_with}
+use Rattle.rules.specs.Work.{decides, reads_first, begins_plan, attempts, undecided_work, decided_work, edit_work}
+use Rattle.rules.specs.After.{edit_of}
 use Rattle.rules.specs.Agreement.{IsPlanned, is_planned}
-use Rattle.rules.specs.Due.{with_card, with_ended, is_lost, answer_of, edit_answer, outcome_answer, answer_of_outcome, planning_answer}
-use Rattle.rules.specs.State.{view_in, content_on}
+use Rattle.rules.specs.Due.{with_card, with_ended, is_lost, edit_answer, outcome_answer, answer_of_outcome, planning_answer}
+use Rattle.rules.specs.State.{content_on}
 use Rattle.performed.proofs.CalmSends.{never}
-use Rattle.performed.proofs.EditsPlan.{Place, next_at, update_at, sent_at, is_back, files_at, HasFirst, has_first, WritesFiles, plan_files}
+use Rattle.performed.proofs.EditsPlan.{next_at, HasFirst, has_first, plan_files}
 use Rattle.performed.proofs.EditsSends.{is_book}
 use Rattle.performed.proofs.EditsSteps.{file_of_place}
-use Rattle.performed.proofs.EditsState.{files_in, is_over, IsFresh, IsWriting, EditAt, unplanned, writing, refused, finished, Phase, begins, Allowed, IsActive}
+use Rattle.performed.proofs.EditsState.{files_in, is_over, IsFresh, IsWriting, EditAt, unplanned, writing, refused, finished, begins, Allowed, IsActive}
 
 -- ---- an edit that was refused owes an answer
 

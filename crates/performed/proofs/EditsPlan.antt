@@ -1,7 +1,6 @@
 -- The places of a plan's updates, and what the files are before each of them.
-use Rattle.std.proofs.Common.{◌≡◌, ℕ, zero, suc, ◌+◌, ◌-◌, ◌==◌, ◌&&◌, ◌||◌, not, Bool, true, false, if◌then◌else◌, Option, Some, None, is_some, Result, Ok, Err, IfOk, List, [], ◌∷◌, refl, sym, ap, ◌∙◌, subst, true≢false}
-use Rattle.std.specs.Prelude.{slice_get, nat_lt, length, option_map, drop, take, unwrap_or, replicate}
-use Rattle.apdu.specs.Words.{is_empty}
+use Rattle.std.proofs.Common.{◌≡◌, ℕ, suc, ◌-◌, ◌||◌, not, Bool, true, false, Option, Some, None, Result, Ok, Err, IfOk, List, refl, sym, ap, ◌∙◌, subst}
+use Rattle.std.specs.Prelude.{slice_get, nat_lt, option_map, drop}
 use Rattle.fcp.specs.Content.{Content, is_linear}
 use Rattle.adn.specs.declared.entry.BookRow.{BookRow}
 use Rattle.adn.specs.declared.edit.Edit.{Edit}

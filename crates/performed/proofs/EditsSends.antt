@@ -1,10 +1,10 @@
 -- What the turn of an edit sends that has still to write: the SELECT of its file, an exchange of that, or the update.
-use Rattle.std.proofs.Common.{◌≡◌, ◌⊎◌, inl, inr, ℕ, zero, suc, ◌+◌, ◌%◌, ◌==◌, ◌&&◌, ◌||◌, not, Bool, true, false, if◌then◌else◌, Option, Some, None, is_some, List, [], ◌∷◌, refl, sym, ap, ◌∙◌, subst, true≢false}
-use Rattle.std.specs.Prelude.{slice_get, option_map, option_and_then, nat_lt}
-use Rattle.std.proofs.lemmas.Bool.{and_parts, and_from, eqb-true, not-true}
+use Rattle.std.proofs.Common.{◌≡◌, ◌⊎◌, inl, inr, ℕ, ◌%◌, ◌==◌, ◌&&◌, ◌||◌, not, Bool, true, false, if◌then◌else◌, Option, Some, None, is_some, List, [], ◌∷◌, refl, sym, ap, ◌∙◌, subst, true≢false}
+use Rattle.std.specs.Prelude.{option_map}
+use Rattle.std.proofs.lemmas.Bool.{and_parts, eqb-true}
 use Rattle.apdu.specs.Values.{CommandValue, ResponseValue}
-use Rattle.apdu.specs.Words.{has_value, same_bytes, is_one_of, path_of}
-use Rattle.apdu.specs.Apdu.{same_command, get_response_ins, select_ins, is_update_ins, is_success, is_refusal, has_more, wants_more, wants_other_le, with_le, le_of_byte}
+use Rattle.apdu.specs.Words.{has_value, is_one_of, path_of}
+use Rattle.apdu.specs.Apdu.{same_command, get_response_ins, select_ins, is_update_ins, is_success, has_more, wants_more, wants_other_le, with_le, le_of_byte}
 use Rattle.card_model.specs.Select.{ids_of}
 use Rattle.card_effects.proofs.Same.{same_bytes_is}
 use Rattle.card_effects.proofs.Table.{no_more_by, no_other_by}
@@ -12,24 +12,21 @@ use Rattle.script_reader.specs.declared.types.Script.{Script}
 use Rattle.script_reader.specs.declared.types.Operation.{Operation}
 use Rattle.script_reader.specs.declared.types.Operation.TheVariants as operation
 use Rattle.card_model.specs.declared.world.World.{World}
-use Rattle.report.specs.declared.line.Line.{Line}
-use Rattle.report.specs.declared.line.Line.TheVariants as line
 use Rattle.adn.specs.declared.edit.Edit.{Edit}
 use Rattle.adn.specs.declared.edit.RowUpdate.{RowUpdate}
 use Rattle.families.specs.Families.{family_path}
 use Rattle.link.specs.declared.chain.Chain.{Chain}
 use Rattle.link.specs.declared.chain.Final.{Final}
-use Rattle.link.specs.Commands.{select_only, is_at, first_of, chain_first, chain_count, follow_up, get_response_for, asks_more, is_basic_select, is_path_select, named_path, path_body, selection_after, is_refused, is_reading_select, file_not_found, most_exchanges}
-use Rattle.loader.specs.Load.{selected_first, is_selected}
+use Rattle.link.specs.Commands.{select_only, is_at, first_of, chain_first, follow_up, get_response_for, is_basic_select, named_path, path_body, selection_after, is_refused, is_reading_select, file_not_found}
+use Rattle.loader.specs.Load.{selected_first}
 use Rattle.loader.specs.Reading.{has_bad_fcp}
-use Rattle.editor.specs.declared.editing.Attempt.{Attempt}
-use Rattle.editor.specs.Editing.{next_update, update_command}
+use Rattle.editor.specs.Editing.{update_command}
 use Rattle.rules.specs.declared.kept.Begun.{Begun}
 use Rattle.rules.specs.declared.kept.Kept.{Kept}
 use Rattle.rules.specs.declared.kept.Outcome.{Outcome}
 use Rattle.rules.specs.declared.kept.Outcome.TheVariants as outcome
 use Rattle.rules.specs.declared.kept.Stage.{Stage}
-use Rattle.rules.specs.declared.kept.Stage.TheVariants.{Fresh as fresh, Next as next}
+use Rattle.rules.specs.declared.kept.Stage.TheVariants.{Fresh as fresh}
 use Rattle.rules.specs.declared.kept.Work.{Work}
 use Rattle.rules.specs.declared.kept.Work.TheVariants.{Writes as writes}
 use Rattle.rules.specs.Editing.{attempt_of}

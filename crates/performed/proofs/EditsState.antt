@@ -1,8 +1,6 @@
 -- How far an edit is, and what lines leave of that.
-use Rattle.std.proofs.Common.{◌≡◌, ◌⊎◌, inl, inr, ℕ, zero, suc, ◌+◌, ◌==◌, ◌&&◌, ◌||◌, not, Bool, true, false, if◌then◌else◌, Option, Some, None, is_some, Ok, List, [], ◌∷◌, ◌++◌, refl, sym, ap, ◌∙◌, subst, true≢false}
-use Rattle.std.specs.Prelude.{slice_get, option_map}
-use Rattle.std.specs.List.{list_any}
-use Rattle.std.proofs.lemmas.Bool.{and_parts}
+use Rattle.std.proofs.Common.{◌≡◌, ℕ, ◌==◌, ◌||◌, Bool, true, false, if◌then◌else◌, Option, Some, None, is_some, Ok, List, [], ◌∷◌, ◌++◌, refl, sym, ap, ◌∙◌, true≢false}
+use Rattle.std.specs.Prelude.{slice_get}
 use Rattle.card_model.specs.declared.world.CardState.{CardState}
 use Rattle.card_model.specs.declared.world.World.{World}
 use Rattle.card_model.specs.Step.{card_inside}
@@ -10,13 +8,11 @@ use Rattle.script_reader.specs.declared.types.Script.{Script}
 use Rattle.report.specs.declared.line.Line.{Line}
 use Rattle.adn.specs.declared.edit.Edit.{Edit}
 use Rattle.adn.specs.declared.edit.RowUpdate.{RowUpdate}
-use Rattle.adn.specs.declared.edit.Plan.{Plan}
 use Rattle.families.specs.Families.{family_paths, family_path}
 use Rattle.families.specs.Plans.{plan_edit, plan_updates}
 use Rattle.book_plans.specs.Phonebook.{Files}
 use Rattle.link.specs.declared.chain.Chain.{Chain}
 use Rattle.link.specs.Commands.{select_only}
-use Rattle.apdu.specs.Values.{CommandValue}
 use Rattle.apdu.specs.Apdu.{get_response_ins}
 use Rattle.epoch_cache.specs.declared.cached.Touch.{Touch}
 use Rattle.epoch_cache.specs.Cache.{is_moved, moves_one}
@@ -36,8 +32,7 @@ use Rattle.rules.specs.Sessions.{lacking_key}
 use Rattle.rules.specs.After.{edit_of, facts_of, kept_after}
 use Rattle.rules.specs.State.{view_in}
 use Rattle.performed.proofs.CalmKinds.{IsExchangeOf}
-use Rattle.performed.proofs.EditsBegun.{near}
-use Rattle.performed.proofs.EditsPlan.{Place, front, middle, back, update_at, sent_at, is_back, files_at, next_at}
+use Rattle.performed.proofs.EditsPlan.{Place, update_at, sent_at, is_back, files_at, next_at}
 
 -- ---- what is known of an edit
 

@@ -1,15 +1,15 @@
 -- What an exchange of the turn of an edit leads to that has still to write.
-use Rattle.std.proofs.Common.{◌≡◌, ◌⊎◌, inl, inr, ℕ, zero, suc, ◌+◌, ◌-◌, ◌==◌, ◌&&◌, ◌||◌, not, Bool, true, false, if◌then◌else◌, Option, Some, None, is_some, Ok, List, [], ◌∷◌, ◌++◌, refl, sym, ap, ◌∙◌, subst, arith, true≢false}
+use Rattle.std.proofs.Common.{◌≡◌, ◌⊎◌, inl, inr, ℕ, suc, ◌+◌, ◌-◌, ◌==◌, ◌&&◌, ◌||◌, not, Bool, true, false, if◌then◌else◌, Option, Some, None, is_some, List, refl, sym, ap, ◌∙◌, subst, arith, true≢false}
 use Rattle.std.specs.Prelude.{slice_get, option_map, option_and_then, nat_lt}
-use Rattle.std.proofs.lemmas.Bool.{and_parts, and_from, eqb-true, not-true}
+use Rattle.std.proofs.lemmas.Bool.{eqb-true}
 use Rattle.apdu.specs.Values.{CommandValue, ResponseValue}
 use Rattle.apdu.specs.Words.{has_value, same_bytes, or_else}
-use Rattle.apdu.specs.Apdu.{get_response_ins, select_ins, is_update_ins, is_success, wants_more, has_more}
+use Rattle.apdu.specs.Apdu.{get_response_ins, is_update_ins, is_success, has_more}
 use Rattle.refresh_cmd.specs.Values.{ProactiveValue}
 use Rattle.card_effects.specs.Basic.{HasCurrent}
 use Rattle.card_model.specs.declared.world.CardState.{CardState}
 use Rattle.card_model.specs.declared.world.World.{World}
-use Rattle.card_model.specs.Step.{on_card, step, card_inside}
+use Rattle.card_model.specs.Step.{on_card, step}
 use Rattle.card_effects.proofs.Same.{same_bytes_self}
 use Rattle.script_reader.specs.declared.types.Script.{Script}
 use Rattle.script_reader.specs.declared.types.Operation.{Operation}
@@ -26,22 +26,18 @@ use Rattle.script_reader.specs.declared.types.Operation.TheVariants as operation
 use Rattle.book_plans.specs.Law.{written, written_some}
 use Rattle.link.specs.declared.chain.Chain.{Chain}
 use Rattle.link.specs.declared.chain.Final.{Final}
-use Rattle.link.specs.Commands.{select_only, is_at, chain_first, chain_count, follow_up, asks_more, named_path, selection_after, is_path_select, is_reading_select, most_exchanges}
-use Rattle.epoch_cache.specs.declared.cached.Touch.{Touch}
-use Rattle.epoch_cache.specs.Cache.{is_update, is_moved, is_moved_by, is_row_update, is_raw_write, touch_exchanged, written_by, moves_one}
+use Rattle.link.specs.Commands.{select_only, is_at, chain_first, chain_count, follow_up, asks_more, named_path, is_path_select, is_reading_select, most_exchanges}
+use Rattle.epoch_cache.specs.Cache.{is_update, is_moved, is_moved_by, is_row_update, is_raw_write, written_by}
 use Rattle.epoch_cache.specs.declared.cached.Written.TheVariants as written
-use Rattle.loader.specs.Load.{is_selected}
-use Rattle.loader.specs.declared.reading.RefusedReading.{RefusedReading}
 use Rattle.editor.specs.declared.editing.Attempt.{Attempt}
 use Rattle.editor.specs.declared.editing.Decided.{Decided}
 use Rattle.editor.specs.declared.editing.Editing.{Editing}
-use Rattle.editor.specs.Editing.{next_update, update_command, sent_update, decided_by, extended_by, updated_by, attempt_behind, moved_editing, owed_of, card_need}
+use Rattle.editor.specs.Editing.{next_update, update_command, sent_update, decided_by, extended_by, updated_by, moved_editing, owed_of, card_need}
 use Rattle.rules.specs.declared.kept.Begun.{Begun}
 use Rattle.rules.specs.declared.kept.Facts.{Facts}
 use Rattle.rules.specs.declared.kept.Job.{Job}
 use Rattle.rules.specs.declared.kept.Kept.{Kept}
 use Rattle.rules.specs.declared.kept.Outcome.{Outcome}
-use Rattle.rules.specs.declared.kept.Stage.{Stage}
 use Rattle.rules.specs.declared.kept.Stage.TheVariants.{Fresh as fresh, Next as next, Over as over}
 use Rattle.rules.specs.declared.kept.Turn.{Turn}
 use Rattle.rules.specs.declared.kept.Work.{Work}
@@ -50,10 +46,9 @@ use Rattle.rules.specs.Channels.{held_numbers}
 use Rattle.rules.specs.Sessions.{lacking_key}
 use Rattle.fcp.specs.declared.rule.Need.{Need}
 use Rattle.fcp.specs.declared.rule.Need.TheVariants.{Always, Never, Key}
-use Rattle.rules.specs.Agreement.{IsSelected}
 use Rattle.rules.specs.Editing.{attempt_of}
 use Rattle.rules.specs.Kept.{begun_of, job_of, operation_at, operation_now, begun_operation}
-use Rattle.rules.specs.After.{is_raw, is_raw_line, edit_of, editing_sent, editing_answered, begun_exchanged, facts_of, opened_behind, next_or_over, stage_of_write, stage_after, outcome_of, refused_outcome, refused_of, jobs_beside, jobs_of_actor, decision_at, turn_answered, kept_after}
+use Rattle.rules.specs.After.{is_raw, is_raw_line, edit_of, editing_sent, editing_answered, begun_exchanged, facts_of, opened_behind, next_or_over, stage_of_write, stage_after, outcome_of, refused_outcome, refused_of, jobs_beside, kept_after}
 use Rattle.rules.specs.State.{view_in}
 use Rattle.performed.proofs.CalmKinds.{IsExchangeOf}
 use Rattle.performed.proofs.CalmLines.{turn_by, exchanged_actor}
@@ -61,8 +56,8 @@ use Rattle.performed.proofs.CalmSends.{never}
 use Rattle.performed.proofs.EditsBegun.{near, begun_exchanges}
 use Rattle.performed.proofs.EditsCard.{Answered, OnBasic, no_refresh, update_answered, view_same, need_same, view_written, view_other}
 use Rattle.performed.proofs.EditsPlan.{Place, counted, front, middle, back, update_at, sent_at, is_back, files_at, none_behind, none_further, WritesFiles, plan_files}
-use Rattle.performed.proofs.EditsSends.{is_book, Does, writes_row, selects_file, names_path, selected_then, waits_then, follows, no_update, select_came, refused_came, edit_came}
-use Rattle.performed.proofs.EditsState.{files_in, is_over, IsFresh, IsWriting, EditAt, writing, refused, finished, next_is, IsSelecting, Phase, selecting, ready, Allowed, IsActive, none_moved, unmoved_attempt}
+use Rattle.performed.proofs.EditsSends.{is_book, names_path, selected_then, waits_then, follows, no_update, select_came, refused_came, edit_came}
+use Rattle.performed.proofs.EditsState.{files_in, is_over, IsFresh, IsWriting, EditAt, writing, refused, finished, next_is, Phase, selecting, ready, Allowed, IsActive, unmoved_attempt}
 
 -- ---- the paths of books
 

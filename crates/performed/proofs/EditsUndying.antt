@@ -1,22 +1,19 @@
 -- Over a script that is served and steady, where the lines show what a card gave, no epoch ends: a card is put in once, no exchange fails, no reset is
 -- owed and no REFRESH is handed over. So what has begun in the epoch that lives has neither an end nor the publication of one.
 use Rattle.std.proofs.Common.{◌≡◌, ◌⊎◌, inl, inr, ℕ, zero, suc, ◌+◌, ◌==◌, ◌&&◌, not, Bool, true, false, if◌then◌else◌, Option, Some, None, List, [], ◌∷◌, is_some, refl, sym, ap, ◌∙◌, subst, true≢false}
-use Rattle.std.specs.Prelude.{is_none, option_map, option_and_then, slice_get, replicate, unwrap_or}
-use Rattle.std.proofs.lemmas.Bool.{and_parts, eq-eqb, not-true}
-use Rattle.apdu.specs.Values.{CommandValue, ResponseValue}
+use Rattle.std.specs.Prelude.{is_none, option_map, option_and_then, replicate}
+use Rattle.std.proofs.lemmas.Bool.{and_parts, eq-eqb}
+use Rattle.apdu.specs.Values.{CommandValue}
 use Rattle.apdu.specs.Words.{has_value, same_number}
 use Rattle.apdu.specs.Apdu.{select_ins, is_success}
 use Rattle.refresh_cmd.specs.Values.{ProactiveValue}
 use Rattle.card_model.specs.declared.world.World.{World}
-use Rattle.card_model.specs.declared.world.WorldEvent.{WorldEvent}
 use Rattle.card_model.specs.declared.world.WorldEvent.TheVariants.{Arm, Out, Insert}
 use Rattle.card_model.specs.Slot.{refusal_of}
-use Rattle.card_model.specs.Step.{card_inside}
 use Rattle.script_reader.specs.declared.types.Script.{Script}
 use Rattle.script_reader.specs.declared.types.Operation.{Operation}
 use Rattle.script_reader.specs.declared.types.Operation.TheVariants as operation
 use Rattle.script_reader.specs.Rules.{keeps_rules}
-use Rattle.report.specs.declared.answer.Answer.{Answer}
 use Rattle.report.specs.declared.line.Line.{Line}
 use Rattle.report.specs.declared.line.Line.TheVariants as line
 use Rattle.families.specs.Families.{family_paths}
@@ -29,7 +26,7 @@ use Rattle.rules.specs.declared.holdings.Handle.{Handle}
 use Rattle.rules.specs.Sessions.{verify_command}
 use Rattle.epoch_cache.specs.Cache.{first_missing}
 use Rattle.epoch_cache.specs.declared.past.Past.{Past}
-use Rattle.epoch_cache.specs.Cache.{asks_reset, handed_refresh}
+use Rattle.epoch_cache.specs.Cache.{asks_reset}
 use Rattle.loader.specs.Load.{is_selected, read_behind}
 use Rattle.rules.specs.declared.due.Due.{Due}
 use Rattle.rules.specs.declared.due.Due.TheVariants.{TellEnd as tell_end, ResetCard as reset_card}
@@ -43,14 +40,14 @@ use Rattle.rules.specs.declared.kept.Turn.{Turn}
 use Rattle.rules.specs.declared.kept.Work.{Work}
 use Rattle.rules.specs.declared.kept.Work.TheVariants.{Rests as rests, Refuses as refuses, Lacks as lacks, Sends as sends, Reads as reads, Writes as writes, Resets as resets, Happens as happens}
 use Rattle.loader.specs.declared.reading.RefusedReading.{RefusedReading}
-use Rattle.rules.specs.History.{history_after, is_living, lives_in}
+use Rattle.rules.specs.History.{history_after, lives_in}
 use Rattle.rules.specs.Channels.{held_numbers, handle_of, is_raw_ins}
 use Rattle.rules.specs.Kept.{begun_of, job_of, operation_at, operation_now, actor_count, first_job}
 use Rattle.rules.specs.Standing.{first_stale}
 use Rattle.rules.specs.Work.{is_starting, status_command, if_living, living_handle, sends_raw, sends_close, reads_first, work_of_operation, work_of_edit, first_item, framework_work, read_stale}
 use Rattle.rules.specs.Editing.{family_edit, attempt_of}
-use Rattle.rules.specs.After.{begun_with, fresh_begun, facts_of, told_by, stage_of_sent, stage_of_open, stage_of_write, stage_after, next_or_over, opened_behind, turn_answered, decision_of_begun, decision_at, jobs_beside, jobs_of_actor, refused_of, kept_after, kept_of}
-use Rattle.rules.specs.Due.{is_resetting, reset_by_stage, is_reset_due, due}
+use Rattle.rules.specs.After.{begun_with, fresh_begun, facts_of, told_by, stage_of_sent, stage_after, next_or_over, opened_behind, decision_of_begun, decision_at, jobs_beside, jobs_of_actor, refused_of, kept_after, kept_of}
+use Rattle.rules.specs.Due.{is_resetting, reset_by_stage, due}
 use Rattle.rules.specs.Rules.{is_turn_of}
 use Rattle.rules.specs.Performed.{is_reset, is_end_told}
 use Rattle.rules.specs.State.{world_of}
@@ -66,7 +63,6 @@ use Rattle.performed.proofs.SteadyShown.{unarmed_of, never_failed}
 use Rattle.performed.proofs.EditsBegun.{near, Came, stays, marks, begins, exchanges, fails, came}
 use Rattle.performed.proofs.EditsCard.{answered_of, no_refresh}
 use Rattle.performed.proofs.EditsDecides.{work_passes}
-use Rattle.performed.proofs.TurnsJobs.{first_jobs}
 use Rattle.performed.proofs.TurnsSays.{says_of}
 
 -- ---- the parts

@@ -1,7 +1,7 @@
 -- What is known of an operation whose epoch lives: no end of it is kept, and none was told.
-use Rattle.std.proofs.Common.{◌≡◌, ◌⊎◌, inl, inr, ℕ, zero, suc, ◌+◌, ◌==◌, ◌&&◌, not, Bool, true, false, if◌then◌else◌, List, [], ◌∷◌, replicate, Option, Some, None, is_some, refl, sym, ap, ◌∙◌, subst, true≢false}
-use Rattle.std.specs.Prelude.{nat_le, option_map}
-use Rattle.std.proofs.lemmas.Bool.{and_parts, and_from, eqb-true, eq-eqb}
+use Rattle.std.proofs.Common.{◌≡◌, ℕ, zero, suc, ◌+◌, ◌==◌, ◌&&◌, Bool, true, false, if◌then◌else◌, List, [], ◌∷◌, replicate, Option, Some, None, is_some, refl, sym, ap, ◌∙◌, subst, true≢false}
+use Rattle.std.specs.Prelude.{option_map}
+use Rattle.std.proofs.lemmas.Bool.{and_parts, eqb-true, eq-eqb}
 use Rattle.apdu.specs.Values.{CommandValue, ResponseValue}
 use Rattle.apdu.specs.Words.{same_number}
 use Rattle.card_model.specs.declared.world.WorldEvent.{WorldEvent}
@@ -18,10 +18,9 @@ use Rattle.rules.specs.declared.kept.Kept.{Kept}
 use Rattle.rules.specs.History.{ends_epoch, lives_in}
 use Rattle.rules.specs.Channels.{held_numbers}
 use Rattle.rules.specs.Kept.{actor_count, first_job, job_of, begun_of, operation_now, change_at}
-use Rattle.rules.specs.Work.{is_finished}
-use Rattle.rules.specs.After.{begun_beside, begun_exchanged, begun_failed, begun_with, decision_at, edit_of, ended_by, facts_of, fresh_begun, job_beside, jobs_beside, own_job, refused_of, told_by, kept_after, kept_of}
+use Rattle.rules.specs.After.{begun_beside, begun_exchanged, begun_failed, begun_with, decision_at, edit_of, facts_of, job_beside, jobs_beside, own_job, refused_of, told_by, kept_after, kept_of}
 use Rattle.rules.specs.Due.{due}
-use Rattle.rules.specs.Performed.{ends_turn, is_end_told, is_reset, is_sent}
+use Rattle.rules.specs.Performed.{is_end_told, is_reset, is_sent}
 use Rattle.rules.specs.Rules.{is_turn_of}
 use Rattle.performed.specs.Followed.{is_tried, are_followed, is_followed}
 use Rattle.performed.specs.Laws.{ended_at}
@@ -29,7 +28,7 @@ use Rattle.performed.proofs.EpochEnds.{led_ended}
 use Rattle.performed.proofs.EpochLives.{impossible, none_ended, reset_no_end, sent_no_end, tried_no_end}
 use Rattle.performed.proofs.EpochNames.{EndBegun, begun_ends, none_ended as unended}
 use Rattle.performed.proofs.ProgressJobs.{changed, mapped}
-use Rattle.performed.proofs.TurnsSays.{says_of, turn_done}
+use Rattle.performed.proofs.TurnsSays.{says_of}
 
 -- ---- the end that a turn has to tell happened
 

@@ -1,11 +1,10 @@
 -- Over a script that takes no card out and arms no change, each event of the world is an insertion.
-use Rattle.std.proofs.Common.{◌≡◌, ℕ, zero, suc, ◌&&◌, Bool, true, false, if◌then◌else◌, Option, Some, None, List, [], ◌∷◌, refl, sym, ap, ◌∙◌, subst, true≢false}
+use Rattle.std.proofs.Common.{◌≡◌, ℕ, zero, suc, Bool, true, false, if◌then◌else◌, Option, Some, None, List, [], ◌∷◌, refl, subst}
 use Rattle.std.specs.Prelude.{slice_get, unwrap_or}
 use Rattle.std.specs.List.{list_all}
-use Rattle.std.proofs.lemmas.Bool.{and_parts, eqb-true}
+use Rattle.std.proofs.lemmas.Bool.{and_parts}
 use Rattle.apdu.specs.Values.{CommandValue, ResponseValue}
 use Rattle.apdu.specs.Words.{is_empty}
-use Rattle.card_model.specs.declared.world.World.{World}
 use Rattle.card_model.specs.declared.world.WorldEvent.{WorldEvent}
 use Rattle.card_model.specs.declared.world.WorldEvent.TheVariants.{Arm, Out, Insert}
 use Rattle.adn.specs.declared.edit.Edit.{Edit}
@@ -14,7 +13,7 @@ use Rattle.script_reader.specs.declared.types.Operation.TheVariants as operation
 use Rattle.script_reader.specs.declared.types.Script.{Script}
 use Rattle.report.specs.declared.line.Line.{Line}
 use Rattle.report.specs.declared.line.Line.TheVariants as line
-use Rattle.channels.specs.Channels.{close_command, on_channel, open_command}
+use Rattle.channels.specs.Channels.{on_channel, open_command}
 use Rattle.epoch_cache.specs.Past.{is_insertion}
 use Rattle.epoch_cache.specs.Cache.{first_missing}
 use Rattle.families.specs.Families.{family_paths}
@@ -42,7 +41,7 @@ use Rattle.rules.specs.Standing.{first_stale}
 use Rattle.rules.specs.Kept.{begun_of, begun_operation, job_of, operation_at, operation_now}
 use Rattle.rules.specs.Work.{first_item, framework_work, is_starting, living_handle, read_stale, reads_first, sends_close, sends_raw, status_command, work_of_edit, work_of_operation}
 use Rattle.rules.specs.After.{decision_at, decision_of_begun, facts_of, fresh_begun, jobs_beside, refused_of, kept_after, kept_of}
-use Rattle.rules.specs.Due.{due, event_by_stage, event_of}
+use Rattle.rules.specs.Due.{due, event_by_stage}
 use Rattle.rules.specs.Rules.{is_turn_of, same_event}
 use Rattle.performed.specs.Served.{is_steady, is_steady_script}
 use Rattle.performed.specs.Followed.{is_tried, are_followed, is_followed}

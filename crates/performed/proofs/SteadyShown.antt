@@ -7,7 +7,6 @@ use Rattle.apdu.specs.Values.{CommandValue, ResponseValue}
 use Rattle.apdu.specs.Words.{is_empty, same_bytes}
 use Rattle.apdu.specs.Apdu.{fetch_ins, is_update_ins, is_success, same_response}
 use Rattle.card_model.specs.declared.world.Fault.{Fault}
-use Rattle.card_model.specs.declared.world.FileState.{FileState}
 use Rattle.card_model.specs.declared.world.Change.{Change}
 use Rattle.card_model.specs.declared.world.CardState.{CardState}
 use Rattle.card_model.specs.declared.world.World.{World}
@@ -17,24 +16,19 @@ use Rattle.card_model.specs.Card.{first_armed}
 use Rattle.card_model.specs.Slot.{fault_at}
 use Rattle.card_model.specs.Step.{on_card, card_inside, step, step_of_card, step_of_place, reset_card, inserted, after_event, reset_in, after_reset}
 use Rattle.card_effects.specs.Effect.{Effect, quiet, refuses_select, reads_record, reads_binary, gets, selects, updates_record, updates_binary, opens, closes, hands_over}
-use Rattle.card_effects.proofs.Effects.{effect}
-use Rattle.card_effects.proofs.Basic.{effect_aids}
 use Rattle.script_reader.specs.declared.types.CardSpec.{CardSpec}
 use Rattle.script_reader.specs.declared.types.Script.{Script}
 use Rattle.script_reader.specs.World.{card_of}
 use Rattle.report.specs.declared.line.Line.{Line}
 use Rattle.report.specs.declared.line.Line.TheVariants as line
-use Rattle.families.specs.Families.{shown}
-use Rattle.epoch_cache.specs.Cache.{is_update}
 use Rattle.epoch_cache.specs.Past.{is_insertion}
 use Rattle.rules.specs.declared.kept.Kept.{Kept}
 use Rattle.rules.specs.After.{kept_of}
 use Rattle.rules.specs.Rules.{has_right_response, next_fault, is_failing, is_acting, same_flag}
-use Rattle.rules.specs.State.{content_on, shown_on, shown_in, same_shown, world_after, world_of}
+use Rattle.rules.specs.State.{world_after, world_of}
 use Rattle.performed.specs.Served.{is_steady, is_steady_script}
 use Rattle.performed.specs.Followed.{is_followed, are_followed}
 use Rattle.performed.specs.Told.{is_told}
-use Rattle.performed.proofs.CalmLent.{get_set, steps_card, card_there}
 use Rattle.performed.proofs.SteadyEvents.{world_insertion}
 use Rattle.performed.proofs.SteadyArmed.{stays_unarmed}
 use Rattle.performed.proofs.CalmCards.{dead}
