@@ -1,13 +1,12 @@
--- Over a script that is served the card in the slot shows the same behind each command that is no UPDATE that was done, and no call of it fails.
+-- Over a script of which no epoch ends the card in the slot shows the same behind each command that is no UPDATE that was done, and no call of it fails.
 use Rattle.std.proofs.Common.{◌≡◌, ℕ, zero, suc, ◌+◌, ◌==◌, ◌&&◌, ◌||◌, Bool, true, false, Option, Some, None, List, [], ◌∷◌, map, refl, ap, sym, ◌∙◌, subst, true≢false}
 use Rattle.std.specs.Prelude.{slice_get, slice_set, option_and_then, is_some, is_none}
 use Rattle.std.specs.List.{list_all}
-use Rattle.std.proofs.lemmas.Bool.{and_parts, and_from, eqb-true}
+use Rattle.std.proofs.lemmas.Bool.{and_parts, and_from, eqb-true, eq-eqb}
 use Rattle.apdu.specs.Values.{CommandValue, ResponseValue}
 use Rattle.apdu.specs.Words.{is_empty, same_bytes}
-use Rattle.apdu.specs.Apdu.{is_update_ins, is_success, same_response}
+use Rattle.apdu.specs.Apdu.{fetch_ins, is_update_ins, is_success, same_response}
 use Rattle.card_model.specs.declared.world.Fault.{Fault}
-use Rattle.card_model.specs.declared.world.FileState.{FileState}
 use Rattle.card_model.specs.declared.world.Change.{Change}
 use Rattle.card_model.specs.declared.world.CardState.{CardState}
 use Rattle.card_model.specs.declared.world.World.{World}
@@ -17,32 +16,26 @@ use Rattle.card_model.specs.Card.{first_armed}
 use Rattle.card_model.specs.Slot.{fault_at}
 use Rattle.card_model.specs.Step.{on_card, card_inside, step, step_of_card, step_of_place, reset_card, inserted, after_event, reset_in, after_reset}
 use Rattle.card_effects.specs.Effect.{Effect, quiet, refuses_select, reads_record, reads_binary, gets, selects, updates_record, updates_binary, opens, closes, hands_over}
-use Rattle.card_effects.proofs.Effects.{effect}
-use Rattle.card_effects.proofs.Basic.{effect_aids}
 use Rattle.script_reader.specs.declared.types.CardSpec.{CardSpec}
 use Rattle.script_reader.specs.declared.types.Script.{Script}
 use Rattle.script_reader.specs.World.{card_of}
 use Rattle.report.specs.declared.line.Line.{Line}
 use Rattle.report.specs.declared.line.Line.TheVariants as line
-use Rattle.families.specs.Families.{shown}
-use Rattle.epoch_cache.specs.Cache.{is_update}
 use Rattle.epoch_cache.specs.Past.{is_insertion}
 use Rattle.rules.specs.declared.kept.Kept.{Kept}
 use Rattle.rules.specs.After.{kept_of}
 use Rattle.rules.specs.Rules.{has_right_response, next_fault, is_failing, is_acting, same_flag}
-use Rattle.rules.specs.State.{content_on, shown_on, shown_in, same_shown, world_after, world_of}
-use Rattle.performed.specs.Served.{is_served, serves}
+use Rattle.rules.specs.State.{world_after, world_of}
+use Rattle.performed.specs.Served.{is_steady, is_steady_script}
 use Rattle.performed.specs.Followed.{is_followed, are_followed}
 use Rattle.performed.specs.Told.{is_told}
-use Rattle.performed.proofs.CalmLent.{get_set, steps_card, card_there}
-use Rattle.performed.proofs.CalmKinds.{Sends}
-use Rattle.performed.proofs.CalmSends.{world_insertion, sends_of}
-use Rattle.performed.proofs.CalmArmed.{stays_unarmed}
+use Rattle.performed.proofs.SteadyEvents.{world_insertion}
+use Rattle.performed.proofs.SteadyArmed.{stays_unarmed}
 use Rattle.performed.proofs.CalmCards.{dead}
 
 -- ---- nothing is armed on any card
 
-abbrev AllUnarmed : List CardState → Type 0
+abbrev pub AllUnarmed : List CardState → Type 0
 AllUnarmed [] = Unit {0}
 AllUnarmed (card ∷ cards) = (card.armed ≡ []) × AllUnarmed cards
 
@@ -97,26 +90,26 @@ unarmed_event w (Insert j) i t = unarmed_insert w j t
 unarmed_event w Out i t = dead i
 unarmed_event w (Arm j) i t = dead i
 
-unarmed_line : (s : Script) (w : World) (k : Kept) (l : Line) → Sends s k → is_followed s k l ≡ true → AllUnarmed w.cards → AllUnarmed (world_after l w).cards
-unarmed_line s w k (line.Exchange a c r) sends h t = unarmed_step w c t
-unarmed_line s w k (line.Failed a c d) sends h t = unarmed_failed w a c d t
-unarmed_line s w k (line.Reset a) sends h t = unarmed_reset w t
-unarmed_line s w k (line.ResetFailed a) sends h t = t
-unarmed_line s w k (line.World a e) sends h t = unarmed_event w e (world_insertion s k a e sends h) t
-unarmed_line s w k (line.Turn a) sends h t = t
-unarmed_line s w k (line.Begin a i) sends h t = t
-unarmed_line s w k (line.Published n f e v text) sends h t = t
-unarmed_line s w k (line.EpochEnd n e v) sends h t = t
-unarmed_line s w k (line.Refused f n) sends h t = t
-unarmed_line s w k (line.Answered a i given) sends h t = t
+unarmed_line : (s : Script) (w : World) (k : Kept) (l : Line) → ((a : ℕ) (e : WorldEvent) → is_followed s k (line.World a e) ≡ true → is_insertion e ≡ true) → is_followed s k l ≡ true → AllUnarmed w.cards → AllUnarmed (world_after l w).cards
+unarmed_line s w k (line.Exchange a c r) inserts h t = unarmed_step w c t
+unarmed_line s w k (line.Failed a c d) inserts h t = unarmed_failed w a c d t
+unarmed_line s w k (line.Reset a) inserts h t = unarmed_reset w t
+unarmed_line s w k (line.ResetFailed a) inserts h t = t
+unarmed_line s w k (line.World a e) inserts h t = unarmed_event w e (inserts a e h) t
+unarmed_line s w k (line.Turn a) inserts h t = t
+unarmed_line s w k (line.Begin a i) inserts h t = t
+unarmed_line s w k (line.Published n f e v text) inserts h t = t
+unarmed_line s w k (line.EpochEnd n e v) inserts h t = t
+unarmed_line s w k (line.Refused f n) inserts h t = t
+unarmed_line s w k (line.Answered a i given) inserts h t = t
 
-pub unarmed_of : (s : Script) (lines : List Line) → serves s ≡ true → are_followed s lines ≡ true → AllUnarmed (world_of s lines).cards
-unarmed_of s [] served h = unarmed_first s.cards
-unarmed_of s (l ∷ earlier) served h =
+pub unarmed_of : (s : Script) (lines : List Line) → is_steady_script s ≡ true → are_followed s lines ≡ true → AllUnarmed (world_of s lines).cards
+unarmed_of s [] steady h = unarmed_first s.cards
+unarmed_of s (l ∷ earlier) steady h =
     let p = and_parts (are_followed s earlier) (is_followed s (kept_of s earlier) l) h in
-    unarmed_line s (world_of s earlier) (kept_of s earlier) l (sends_of s earlier served p.0) p.1 (unarmed_of s earlier served p.0)
+    unarmed_line s (world_of s earlier) (kept_of s earlier) l (world_insertion s earlier steady p.0) p.1 (unarmed_of s earlier steady p.0)
 
-inside_unarmed : (w : World) (card : CardState) → AllUnarmed w.cards → card_inside w ≡ Some card → card.armed ≡ []
+pub inside_unarmed : (w : World) (card : CardState) → AllUnarmed w.cards → card_inside w ≡ Some card → card.armed ≡ []
 inside_unarmed w card t h = by_place w.inside h
   where
     by_place : (o : Option ℕ) → option_and_then (λ j. slice_get w.cards j) o ≡ Some card → card.armed ≡ []
@@ -125,11 +118,11 @@ inside_unarmed w card t h = by_place w.inside h
 
 -- ---- the files stay
 
-none_armed : (changes : List Change) (card : CardState) (change : Change) → card.armed ≡ [] → first_armed changes card ≡ Some change → ⊥
+pub none_armed : (changes : List Change) (card : CardState) (change : Change) → card.armed ≡ [] → first_armed changes card ≡ Some change → ⊥
 none_armed changes card change h e = absurd (let n : first_armed changes card ≡ None = ap (λ (armed : List ℕ). option_and_then (slice_get changes) (slice_get armed 0)) h in cc)
 
--- a command that is no UPDATE that was done
-files_stay : (changes : List Change) (card : CardState) (c : CommandValue) (p : CardState × ResponseValue) → (is_update_ins c.ins && is_success p.1.sw) ≡ false → card.armed ≡ [] → Effect changes card c p → p.0.files ≡ card.files
+-- a command that is no UPDATE that was done, and handed over no change
+pub files_stay : (changes : List Change) (card : CardState) (c : CommandValue) (p : CardState × ResponseValue) → (is_update_ins c.ins && is_success p.1.sw) ≡ false → ((c.ins == fetch_ins) && is_success p.1.sw) ≡ false → Effect changes card c p → p.0.files ≡ card.files
 files_stay changes card c p h none (quiet k e) = k.files
 files_stay changes card c p h none (refuses_select number place channel on e d) = d.keeps.files
 files_stay changes card c p h none (reads_record number place channel on e d) = d.keeps.files
@@ -140,18 +133,7 @@ files_stay changes card c p h none (updates_record number place channel on e d) 
 files_stay changes card c p h none (updates_binary number place channel on e d) = absurd (true≢false (sym (and_from (is_update_ins c.ins) (is_success p.1.sw) (ap is_update_ins e) d.updates.status) ∙ h))
 files_stay changes card c p h none (opens e d) = d.files
 files_stay changes card c p h none (closes e d) = d.files
-files_stay changes card c p h none (hands_over e d) = absurd (none_armed changes card d.change none d.armed)
-
--- what the card with these files and applications shows
-abbrev text_with : CardState → List FileState → List (List ℕ) → ℕ → List ℕ
-text_with card files aids f = shown f (content_on (Some (record card { files = files; aids = aids })))
-
-text_same : (old new : CardState) (f : ℕ) → new.files ≡ old.files → new.aids ≡ old.aids → shown f (content_on (Some new)) ≡ shown f (content_on (Some old))
-text_same old new f files aids = ap (λ (x : List FileState). text_with new x new.aids f) files ∙ ap (λ (x : List (List ℕ)). text_with new old.files x f) aids
-
--- the card in the slot stays as far as files and applications go
-shown_same : (w v : World) (old new : CardState) (f : ℕ) → card_inside w ≡ Some old → card_inside v ≡ Some new → new.files ≡ old.files → new.aids ≡ old.aids → shown_in v f ≡ shown_in w f
-shown_same w v old new f before behind files aids = ap (λ (o : Option CardState). shown_on o f) behind ∙ ap (λ (text : List ℕ). Some text) (text_same old new f files aids) ∙ sym (ap (λ (o : Option CardState). shown_on o f) before)
+files_stay changes card c p h none (hands_over e d) = absurd (true≢false (sym (and_from (c.ins == fetch_ins) (is_success p.1.sw) (eq-eqb c.ins fetch_ins e) (ap (λ (x : ResponseValue). is_success x.sw) d.response)) ∙ none))
 
 answers_at : (w : World) (j : ℕ) (card : CardState) (c : CommandValue) → slice_get w.cards j ≡ Some card → (o : Option CardState) → slice_get w.cards j ≡ o → (step_of_card w j o c).1 ≡ (on_card w.changes card c).1
 answers_at w j card c h None e = absurd (cc)
@@ -161,47 +143,16 @@ answers_in : (w : World) (card : CardState) (c : CommandValue) (o : Option ℕ) 
 answers_in w card c None h = absurd (cc)
 answers_in w card c (Some j) h = answers_at w j card c h (slice_get w.cards j) refl
 
-steps_answer : (w : World) (card : CardState) (c : CommandValue) → card_inside w ≡ Some card → (step w c).1 ≡ (on_card w.changes card c).1
+pub steps_answer : (w : World) (card : CardState) (c : CommandValue) → card_inside w ≡ Some card → (step w c).1 ≡ (on_card w.changes card c).1
 unfolding step
 steps_answer w card c h = answers_in w card c w.inside h
 
 same_status : (a b : ResponseValue) → same_response a b ≡ true → a.sw ≡ b.sw
 same_status a b h = eqb-true a.sw b.sw (and_parts (same_bytes a.body b.body) (a.sw == b.sw) h).1
 
-pub some_shown : (o : Option CardState) (f : ℕ) (text : List ℕ) → same_shown (shown_on o f) (Some text) ≡ true → is_some o ≡ true
-some_shown None f text h = dead h
-some_shown (Some card) f text h = refl
-
 -- the card in the slot gave the status
-told_status : (w : World) (a : ℕ) (c : CommandValue) (r : ResponseValue) (card : CardState) → card_inside w ≡ Some card → has_right_response w (line.Exchange a c r) ≡ true → r.sw ≡ (on_card w.changes card c).1.sw
+pub told_status : (w : World) (a : ℕ) (c : CommandValue) (r : ResponseValue) (card : CardState) → card_inside w ≡ Some card → has_right_response w (line.Exchange a c r) ≡ true → r.sw ≡ (on_card w.changes card c).1.sw
 told_status w a c r card inside right = same_status r (step w c).1 (and_parts (is_some (card_inside w)) (same_response r (step w c).1) right).1 ∙ ap (λ (x : ResponseValue). x.sw) (steps_answer w card c inside)
-
-pub step_shown : (w : World) (a : ℕ) (c : CommandValue) (r : ResponseValue) (f : ℕ) → AllUnarmed w.cards → is_update c r ≡ false → has_right_response w (line.Exchange a c r) ≡ true → shown_in (step w c).0 f ≡ shown_in w f
-step_shown w a c r f unarmed h right =
-    let t = card_there w c r right in
-    let p : CardState × ResponseValue = on_card w.changes t.0 c in
-    let does : Effect w.changes t.0 c p = effect w.changes t.0 c in
-    let undone : (is_update_ins c.ins && is_success p.1.sw) ≡ false = ap (λ (sw : ℕ). is_update_ins c.ins && is_success sw) (sym (told_status w a c r t.0 t.1 right)) ∙ h in
-    shown_same w (step w c).0 t.0 p.0 f t.1 (steps_card w t.0 c t.1) (files_stay w.changes t.0 c p undone (inside_unarmed w t.0 unarmed t.1) does) (effect_aids w.changes t.0 c p does)
-
-pub step_inside : (w : World) (a : ℕ) (c : CommandValue) (r : ResponseValue) → has_right_response w (line.Exchange a c r) ≡ true → is_some (card_inside (step w c).0) ≡ true
-step_inside w a c r right = let t = card_there w c r right in ap is_some (steps_card w t.0 c t.1)
-
-reset_by : (w : World) (card : CardState) (o : Option ℕ) → option_and_then (λ j. slice_get w.cards j) o ≡ Some card → card_inside (reset_in w o) ≡ Some (reset_card card)
-reset_by w card None e = absurd (cc)
-reset_by w card (Some j) e = reset_at (slice_get w.cards j) refl
-  where
-    reset_at : (o : Option CardState) → slice_get w.cards j ≡ o → card_inside (inserted w j o) ≡ Some (reset_card card)
-    reset_at None h = absurd (cc)
-    reset_at (Some k) h = let same : k ≡ card = cc in get_set w.cards j k (reset_card k) h ∙ ap (λ (x : CardState). Some (reset_card x)) same
-
-reset_inside : (w : World) (card : CardState) → card_inside w ≡ Some card → card_inside (after_reset w) ≡ Some (reset_card card)
-unfolding after_reset
-reset_inside w card h = reset_by w card w.inside h
-
-pub reset_some : (w : World) (o : Option CardState) → card_inside w ≡ o → is_some o ≡ true → is_some (card_inside (after_reset w)) ≡ true
-reset_some w None e h = dead h
-reset_some w (Some card) e h = ap is_some (reset_inside w card e)
 
 -- ---- no call fails, but a reset of an empty slot
 
@@ -209,11 +160,11 @@ no_faults : (faults : List Fault) (call : ℕ) → is_empty faults ≡ true → 
 no_faults [] call h = refl
 no_faults (f ∷ faults) call h = dead h
 
-pub never_failed : (s : Script) (w : World) (k : Kept) (a : ℕ) (c : CommandValue) (d : Bool) → serves s ≡ true → is_told s w k (line.Failed a c d) ≡ true → ⊥
-never_failed s w k a c d served told =
+pub never_failed : (s : Script) (w : World) (k : Kept) (a : ℕ) (c : CommandValue) (d : Bool) → is_steady_script s ≡ true → is_told s w k (line.Failed a c d) ≡ true → ⊥
+never_failed s w k a c d steady told =
     let p = and_parts (is_some (card_inside w)) (is_failing s w k && same_flag d (is_acting s w k)) told in
     let q = and_parts (is_failing s w k) (same_flag d (is_acting s w k)) p.1 in
-    neither (is_some (next_fault s k)) (card_inside w) (no_faults s.faults (k.history.calls + 1) (and_parts (list_all (list_all is_served) s.actors) (is_empty s.faults) served).1) p.0 q.0
+    neither (is_some (next_fault s k)) (card_inside w) (no_faults s.faults (k.history.calls + 1) (and_parts (list_all (list_all is_steady) s.actors) (is_empty s.faults) steady).1) p.0 q.0
   where
     neither : (planned : Bool) (o : Option CardState) → planned ≡ false → is_some o ≡ true → (planned || is_none o) ≡ true → ⊥
     neither planned None n h f = true≢false (sym h)
