@@ -36,6 +36,8 @@ pub mod EditsState
 pub mod EditsSends
 pub mod EditsSteps
 pub mod EditsMarks
+pub mod EditsScript
+pub mod EditsLines
 pub mod CalmArmed
 pub mod CalmManage
 pub mod CalmHeld
