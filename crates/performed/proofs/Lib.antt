@@ -38,6 +38,7 @@ pub mod EditsSteps
 pub mod EditsMarks
 pub mod EditsScript
 pub mod EditsLines
+pub mod EditsTurns
 pub mod CalmArmed
 pub mod CalmManage
 pub mod CalmHeld
