@@ -35,6 +35,9 @@ pub mod EditsState
 pub mod EditsSends
 pub mod EditsSteps
 pub mod EditsMarks
+pub mod EditsScript
+pub mod EditsLines
+pub mod EditsTurns
 pub mod CalmManage
 pub mod CalmHeld
 pub mod CalmMatch
