@@ -1,9 +1,9 @@
 -- The edits of a script, and who may begin one.
-use Rattle.std.proofs.Common.{◌≡◌, ◌⊎◌, inl, inr, ℕ, zero, suc, ◌+◌, ◌==◌, ◌&&◌, not, Bool, true, false, if◌then◌else◌, Option, Some, None, is_some, is_none, List, [], ◌∷◌, length, refl, sym, ap, ◌∙◌, subst, arith, true≢false}
+use Rattle.std.proofs.Common.{◌≡◌, ℕ, zero, suc, ◌+◌, ◌==◌, ◌&&◌, not, Bool, true, false, if◌then◌else◌, Option, Some, None, is_some, is_none, List, [], ◌∷◌, length, refl, sym, ap, ◌∙◌, arith, true≢false}
 use Rattle.std.specs.Prelude.{slice_get, unwrap_or, nat_le}
 use Rattle.std.specs.List.{list_all}
 use Rattle.std.proofs.lemmas.Bool.{and_parts, and_from, eq-eqb}
-use Rattle.apdu.specs.Words.{has_value, is_one_of, is_between}
+use Rattle.apdu.specs.Words.{has_value, is_between}
 use Rattle.adn.specs.declared.edit.Edit.{Edit}
 use Rattle.adn.specs.declared.edit.Edit.TheVariants as edit
 use Rattle.script_reader.specs.declared.types.Script.{Script}
@@ -12,12 +12,10 @@ use Rattle.script_reader.specs.declared.types.Operation.TheVariants as operation
 use Rattle.script_reader.specs.Operations.{operation_count, is_actor, has_form, is_operation_within, has_target}
 use Rattle.script_reader.specs.Pairing.{are_paired}
 use Rattle.script_reader.specs.Rules.{keeps_rules, cards_keep_rules, changes_keep_rules, actors_keep_rules, schedule_keeps_rules, faults_keep_rules, budget_keeps_rules}
-use Rattle.report.specs.declared.line.Line.TheVariants as line
-use Rattle.report.specs.declared.line.Line.{Line}
 use Rattle.rules.specs.declared.kept.Begun.{Begun}
 use Rattle.rules.specs.declared.kept.Kept.{Kept}
 use Rattle.rules.specs.Editing.{family_edit}
-use Rattle.rules.specs.Kept.{operations_of, operation_at, begun_of, operation_now, next_operation, job_of, begun_operation}
+use Rattle.rules.specs.Kept.{operation_at, begun_of, operation_now, next_operation, begun_operation}
 use Rattle.rules.specs.Work.{first_actor, is_edit_of, edits_family, edited_by, needs_card, is_starting, operation_waits_on, next_waits_on, waits_on}
 use Rattle.rules.specs.After.{edit_of}
 use Rattle.performed.proofs.CalmSends.{never}

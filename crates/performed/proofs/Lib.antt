@@ -79,3 +79,7 @@ pub mod SteadyArmed
 pub mod SteadyEvents
 pub mod SteadyShown
 pub mod EpochBegun
+pub mod EpochLost
+pub mod EpochDecided
+pub mod EpochFiles
+pub mod EpochFamily
