@@ -130,17 +130,20 @@ pub record Leaves (s : Script) (l : Line) (w v : World) (k : Kept) (i f : ℕ) :
   pub files : (rest : List (List ℕ)) → moves_one (facts_of s l k).touch (family_paths f ++ rest) ≡ false → files_in v f ≡ files_in w f
   pub lives : (epoch : Option ℕ) → lives_in k.history epoch ≡ true → lives_in (kept_after s l k).history epoch ≡ true
   pub refused : k.turn.actor ≡ Some i → is_some k.turn.outcome ≡ true → ((kept_after s l k).turn.actor ≡ Some i) × (is_some (kept_after s l k).turn.outcome ≡ true)
-  pub fresh : IsFresh k.turn i → IsFresh (kept_after s l k).turn i
 
 module _ (s : Script) (l : Line) (w v : World) (k : Kept) (i f : ℕ) (e : Edit) (t : Leaves s l w v k i f) (epoch : Option ℕ) where
+  -- the turn goes on in which an attempt was planned of which nothing was sent
+  abbrev pub Goes : Editing → Type 0
+  Goes editing = (a : Attempt) → editing.attempt ≡ Some a → (a.sent == 0) ≡ true → IsFresh k.turn i → IsFresh (kept_after s l k).turn i
+
   abbrev touch : Touch
   touch = (facts_of s l k).touch
 
   abbrev After : Editing → Type 0
   After editing = EditAt v (kept_after s l k) i f e epoch (moved_editing touch editing)
 
-  still_writing : (decided : Option Decided) (a : Attempt) (q : IsWriting w k i f e epoch decided a) → moves_one touch a.paths ≡ false → IsWriting v (kept_after s l k) i f e epoch decided a
-  still_writing decided a q m = record {
+  still_writing : (decided : Option Decided) (a : Attempt) (q : IsWriting w k i f e epoch decided a) → moves_one touch a.paths ≡ false → ((a.sent == 0) ≡ true → IsFresh k.turn i → IsFresh (kept_after s l k).turn i) → IsWriting v (kept_after s l k) i f e epoch decided a
+  still_writing decided a q m going = record {
     family = q.family;
     rest = q.rest;
     paths = q.paths;
@@ -154,7 +157,7 @@ module _ (s : Script) (l : Line) (w v : World) (k : Kept) (i f : ℕ) (e : Edit)
     old = q.old;
     plan = q.plan;
     now = t.files q.rest (ap (moves_one touch) (sym q.paths) ∙ m) ∙ q.now;
-    fresh = λ h. t.fresh (q.fresh h);
+    fresh = λ h. going h (q.fresh h);
   }
 
   attempt_is : (editing : Editing) (a : Attempt) (moves : Bool) → editing.attempt ≡ Some a → moves_one touch a.paths ≡ moves → (moved_editing touch editing).attempt ≡ (if moves then moved_attempt editing.decided a else Some a)
@@ -166,9 +169,9 @@ module _ (s : Script) (l : Line) (w v : World) (k : Kept) (i f : ℕ) (e : Edit)
   moved_by editing a (Some d) e h m lives =
       finished (ap is_some e) (t.lives epoch lives) (ap (owed_of true) (attempt_is editing a true h m ∙ ap (λ (x : Option Decided). moved_attempt x a) e))
 
-  writing_by : (editing : Editing) (a : Attempt) (moves : Bool) → editing.attempt ≡ Some a → IsWriting w k i f e epoch editing.decided a → moves_one touch a.paths ≡ moves → After editing
-  writing_by editing a true h q m = moved_by editing a editing.decided refl h m q.lives
-  writing_by editing a false h q m = writing a (attempt_is editing a false h m) (still_writing editing.decided a q m)
+  writing_by : (editing : Editing) (a : Attempt) (moves : Bool) → editing.attempt ≡ Some a → IsWriting w k i f e epoch editing.decided a → moves_one touch a.paths ≡ moves → Goes editing → After editing
+  writing_by editing a true h q m going = moved_by editing a editing.decided refl h m q.lives
+  writing_by editing a false h q m going = writing a (attempt_is editing a false h m) (still_writing editing.decided a q m (going a h))
 
   owed_none : (d : Option Decided) (o : Option Attempt) → is_some d ≡ true → owed_of true o ≡ None → owed_of true (attempt_behind touch d o) ≡ None
   owed_none d None h q = refl
@@ -179,11 +182,11 @@ module _ (s : Script) (l : Line) (w v : World) (k : Kept) (i f : ℕ) (e : Edit)
       by_moves true = refl
       by_moves false = q
 
-  pub edit_left : (editing : Editing) → EditAt w k i f e epoch editing → After editing
-  edit_left editing (unplanned a d) = unplanned (ap (attempt_behind touch editing.decided) a) d
-  edit_left editing (writing a h q) = writing_by editing a (moves_one touch a.paths) h q refl
-  edit_left editing (refused d actor came) = let r = t.refused actor came in refused d r.0 r.1
-  edit_left editing (finished d lives owed) = finished d (t.lives epoch lives) (owed_none editing.decided editing.attempt d owed)
+  pub edit_left : (editing : Editing) → Goes editing → EditAt w k i f e epoch editing → After editing
+  edit_left editing going (unplanned a d) = unplanned (ap (attempt_behind touch editing.decided) a) d
+  edit_left editing going (writing a h q) = writing_by editing a (moves_one touch a.paths) h q refl going
+  edit_left editing going (refused d actor came) = let r = t.refused actor came in refused d r.0 r.1
+  edit_left editing going (finished d lives owed) = finished d (t.lives epoch lives) (owed_none editing.decided editing.attempt d owed)
 
 -- ---- what moves nothing
 

@@ -294,7 +294,7 @@ module _ (s : Script) (rules : keeps_rules s ≡ true) (served : serves s ≡ tr
   never_ends n e v d is h = true≢false (sym h)
 
   -- a card is put in where there was none
-  not_living : (j : ℕ) → is_none (refusal_of w (Insert j)) ≡ true → k.history.living ≡ false
+  pub not_living : (j : ℕ) → is_none (refusal_of w (Insert j)) ≡ true → k.history.living ≡ false
   not_living j h = by_living k.history.living refl
     where
       by_living : (b : Bool) → k.history.living ≡ b → b ≡ false

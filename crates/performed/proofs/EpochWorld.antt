@@ -34,7 +34,7 @@ none_in : (w : World) (i : ℕ) (o : Option ℕ) → w.inside ≡ o → option_a
 none_in w i None here h = ap (λ (o : Option ℕ). option_and_then (λ j. slice_get w.cards j) o) here
 none_in w i (Some j) here h = none_at w i j (slice_get w.cards j) here refl h
 
-arms_none : (w : World) (i : ℕ) → card_inside w ≡ None → card_inside (after_event w (Arm i)) ≡ None
+pub arms_none : (w : World) (i : ℕ) → card_inside w ≡ None → card_inside (after_event w (Arm i)) ≡ None
 unfolding after_event
 arms_none w i h = none_in w i w.inside refl h
 

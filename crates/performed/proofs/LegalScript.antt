@@ -42,7 +42,7 @@ module _ (test : Operation → Bool) (s : Script) (all : list_all (list_all test
   of_actor a i op None e h = absurd (cc)
   of_actor a i op (Some ops) e h = all_at test ops i op (all_at (list_all test) s.actors a ops all e) h
 
-  at_passes : (actor i : ℕ) (op : Operation) → operation_at s actor i ≡ Some op → test op ≡ true
+  pub at_passes : (actor i : ℕ) (op : Operation) → operation_at s actor i ≡ Some op → test op ≡ true
   at_passes zero i op h = absurd (cc)
   at_passes (suc a) i op h = of_actor a i op (slice_get s.actors a) refl h
 

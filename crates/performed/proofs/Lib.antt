@@ -35,6 +35,9 @@ pub mod EditsState
 pub mod EditsSends
 pub mod EditsSteps
 pub mod EditsMarks
+pub mod EditsScript
+pub mod EditsLines
+pub mod EditsTurns
 pub mod CalmManage
 pub mod CalmHeld
 pub mod CalmMatch
@@ -76,3 +79,7 @@ pub mod SteadyArmed
 pub mod SteadyEvents
 pub mod SteadyShown
 pub mod EpochBegun
+pub mod EpochLost
+pub mod EpochDecided
+pub mod EpochFiles
+pub mod EpochFamily
