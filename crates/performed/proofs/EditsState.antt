@@ -182,6 +182,9 @@ module _ (s : Script) (l : Line) (w v : World) (k : Kept) (i f : ℕ) (e : Edit)
       by_moves true = refl
       by_moves false = q
 
+  pub finished_left : (editing : Editing) → is_some editing.decided ≡ true → lives_in k.history epoch ≡ true → owed_of true editing.attempt ≡ None → After editing
+  finished_left editing d lives owed = finished d (t.lives epoch lives) (owed_none editing.decided editing.attempt d owed)
+
   pub edit_left : (editing : Editing) → Goes editing → EditAt w k i f e epoch editing → After editing
   edit_left editing going (unplanned a d) = unplanned (ap (attempt_behind touch editing.decided) a) d
   edit_left editing going (writing a h q) = writing_by editing a (moves_one touch a.paths) h q refl going
