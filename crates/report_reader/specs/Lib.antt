@@ -4,3 +4,5 @@ pub mod Content
 pub mod Answers
 pub mod Lines
 pub mod Reports
+pub mod Forms
+pub mod Laws
