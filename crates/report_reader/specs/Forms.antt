@@ -1,8 +1,6 @@
 -- The reports that have a text of their own: each number has the range of its type, and what is shown is compact JSON.
 use Rattle.std.specs.Prelude.{◌≡◌, ℕ, ◌≤◌, Bool, true, false, List, length, Option, Some, IfSome, Ok, ⊤}
 use Rattle.std.specs.List.{AllByRecursion}
-use Rattle.apdu.specs.Words.{is_between}
-use Rattle.apdu.specs.Values.{CommandValue, ResponseValue, HasLe}
 use Rattle.card_model.specs.declared.world.WorldEvent.{WorldEvent}
 use Rattle.card_model.specs.declared.world.WorldEvent.TheVariants as world_event
 use Rattle.script_reader.specs.declared.types.Script.{Script}
@@ -14,53 +12,9 @@ use Rattle.report.specs.declared.answer.Answer.TheVariants as answer
 use Rattle.report.specs.declared.line.Line.{Line}
 use Rattle.report.specs.declared.line.Line.TheVariants as line
 use Rattle.report.specs.declared.lines.Report.{Report}
+use Rattle.report_reader.specs.Ranges.{IsByte, AreBytes, IsWord, IsPlace, IsNumber, IsFamily, IsHandle, IsCharacter, IsCommand, IsResponse}
 use Rattle.report_reader.specs.Content.{content}
 use Rattle.report_reader.specs.Lines.{ends}
-
--- ---- numbers
-
-abbrev pub IsByte : ℕ → Type 0
-IsByte n = n ≤ 255
-
-abbrev pub AreBytes : List ℕ → Type 0
-AreBytes bytes = AllByRecursion IsByte bytes
-
-abbrev pub IsWord : ℕ → Type 0
-IsWord n = n ≤ 65535
-
--- an operation among those of its actor
-abbrev pub IsPlace : ℕ → Type 0
-IsPlace n = n ≤ 4294967295
-
-abbrev pub IsNumber : ℕ → Type 0
-IsNumber n = n ≤ 18446744073709551615
-
-abbrev pub IsFamily : ℕ → Type 0
-IsFamily f = f ≤ 2
-
--- under which a script holds a channel
-abbrev pub IsHandle : ℕ → Type 0
-IsHandle n = n ≤ 15
-
--- a code point that is no surrogate
-abbrev pub IsCharacter : ℕ → Type 0
-IsCharacter code = (code ≤ 0x10_FFFF) × (is_between 0xD800 0xDFFF code ≡ false)
-
--- ---- commands and responses
-
-pub record IsCommand (c : CommandValue) : Type 0 where
-  pub class : IsByte c.class
-  pub ins : IsByte c.ins
-  pub p1 : IsByte c.p1
-  pub p2 : IsByte c.p2
-  pub body : AreBytes c.body
-  pub len : length c.body ≤ 255
-  pub le : HasLe c.le
-
-pub record IsResponse (r : ResponseValue) : Type 0 where
-  pub body : AreBytes r.body
-  pub len : length r.body ≤ 256
-  pub sw : IsWord r.sw
 
 -- ---- answers
 
