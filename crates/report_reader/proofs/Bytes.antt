@@ -80,7 +80,7 @@ hex_byte_spelled word = each_then _ (IsHex word) (hex word) only_byte (hex_spell
     only (b ∷ []) h = (h.0.0, h.1)
     only (b ∷ other ∷ bytes) h = tt
 
-are_two_bytes : (n : ℕ) → IsWord n → AreBytes (two_bytes n)
+pub are_two_bytes : (n : ℕ) → IsWord n → AreBytes (two_bytes n)
 are_two_bytes n h = (omega (arith, h), (omega arith, tt))
 
 pair_back : (n : ℕ) → pair_value (n / 256) (n % 256) ≡ n
