@@ -11,7 +11,7 @@ use Rattle.report_reader.specs.Words.{parts_of, words_of, byte, number, optional
 use Rattle.report_reader.specs.Lines.{place, acted_of}
 use Rattle.report_reader.specs.Ranges.{IsByte, AreBytes, IsPlace, IsNumber, IsFamily}
 use Rattle.report_reader.proofs.Parts.{Lacks, lacks_both, above, last_part, next_part, joined, join_parts, HasFirst, parts_some}
-use Rattle.report_reader.proofs.Readings.{Each, each_then, each_made, each_word}
+use Rattle.report_reader.proofs.Readings.{Each, each_then, each_made, each_as, each_word}
 use Rattle.report_reader.proofs.Numbers.{number_back, number_spelled, decimal_plain}
 
 -- ---- texts that are written out
@@ -150,10 +150,6 @@ rows_spelled word =
     let Q : List ℕ → Type 0 = λ left. AreBytes left × (map decimal left ≡ parts_of 44 word) in
     each_word P word (codes "-") (Some []) (all_of byte (parts_of 44 word)) (λ e. (tt, sym e)) (each_as P Q (all_of byte (parts_of 44 word)) (all_spelled IsByte byte byte_spelled (parts_of 44 word)) rest)
   where
-    each_as : (P Q : List ℕ → Type 0) (o : Option (List ℕ)) → Each Q o → ((left : List ℕ) → Q left → P left) → Each P o
-    each_as P Q None h k = tt
-    each_as P Q (Some left) h k = k left h
-
     some_part : HasFirst (parts_of 44 word)
     some_part = parts_some 44 word
 

@@ -78,6 +78,10 @@ join_blank : (at : ℕ) (parts : List (List ℕ)) → HasFirst parts → joined 
 join_blank at [] h = absurd h
 join_blank at (part ∷ parts) h = refl
 
+pub join_next : (at : ℕ) (part : List ℕ) (parts : List (List ℕ)) → HasFirst parts → joined at (part ∷ parts) ≡ part ++ at ∷ joined at parts
+join_next at part [] h = absurd h
+join_next at part (next ∷ parts) h = refl
+
 pub join_parts : (at : ℕ) (bytes : List ℕ) → joined at (parts_of at bytes) ≡ bytes
 join_parts at [] = refl
 join_parts at (b ∷ bytes) = by (b == at) refl (join_parts at bytes)
@@ -97,6 +101,14 @@ first_next (b ∷ word) rest h = rw (h.0, add-one) (ap (λ (xs : List ℕ). b �
 pub behind_next : (word rest : List ℕ) → Lacks 32 word → behind_word (word ++ 32 ∷ rest) ≡ rest
 behind_next [] rest h = refl
 behind_next (b ∷ word) rest h = rw (h.0, add-one (first_len (word ++ 32 ∷ rest) + 1)) (behind_next word rest h.1)
+
+pub first_some : (line : List ℕ) → HasFirst (first_word line) → HasFirst line
+first_some [] h = absurd h
+first_some (b ∷ line) h = tt
+
+pub behind_some : (line : List ℕ) → HasFirst (behind_word line) → HasFirst line
+behind_some [] h = absurd h
+behind_some (b ∷ line) h = tt
 
 -- where the first space stands
 abbrev place : List ℕ → Bool → ℕ

@@ -19,6 +19,11 @@ pub each_made : {A B : Type 0} (P : B → Type 0) (Q : A → Type 0) (o : Option
 each_made P Q None make h k = tt
 each_made P Q (Some x) make h k = k x h
 
+-- what else holds of it
+pub each_as : {A : Type 0} (P Q : A → Type 0) (o : Option A) → Each Q o → ((x : A) → Q x → P x) → Each P o
+each_as P Q None h k = tt
+each_as P Q (Some x) h k = k x h
+
 pub each_if : {A : Type 0} (P : A → Type 0) (test : Bool) (x y : Option A) → (test ≡ true → Each P x) → (test ≡ false → Each P y) → Each P (if test then x else y)
 each_if P true x y h k = h refl
 each_if P false x y h k = k refl
