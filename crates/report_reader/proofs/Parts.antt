@@ -1,9 +1,9 @@
 -- Texts that are cut at a byte, and put together again.
 use Rattle.std.proofs.Common.{◌≡◌, ℕ, ◌+◌, ◌<◌, ◌==◌, Bool, true, false, List, [], ◌∷◌, ◌++◌, length, take, drop, cond, if◌then◌else◌, zero, suc, refl, sym, ap, ◌∙◌, add-one, arith, append_assoc}
 use Rattle.std.specs.Prelude.{⊤, nat_eq}
-use Rattle.std.specs.List.{slice_split, onto_first}
+use Rattle.std.specs.List.{slice_split, onto_first, AllByRecursion}
 use Rattle.std.proofs.lemmas.Bool.{and_parts, eqb-true, eq-eqb, ne_eqb}
-use Rattle.apdu.specs.Words.{same_bytes}
+use Rattle.apdu.specs.Words.{same_bytes, is_empty}
 use Rattle.report_reader.specs.Words.{parts_of, first_len, first_word, behind_word}
 
 -- ---- the same text
@@ -73,6 +73,23 @@ either_some false xs ys h k = k
 pub parts_some : (at : ℕ) (bytes : List ℕ) → HasFirst (parts_of at bytes)
 parts_some at [] = tt
 parts_some at (b ∷ bytes) = either_some (b == at) ([] ∷ parts_of at bytes) (onto_first b (parts_of at bytes)) tt (onto_some b (parts_of at bytes))
+
+-- the byte stands in no part
+onto_lacks : (at b : ℕ) (parts : List (List ℕ)) → (b == at) ≡ false → AllByRecursion (Lacks at) parts → AllByRecursion (Lacks at) (onto_first b parts)
+onto_lacks at b [] h each = ((h, tt), tt)
+onto_lacks at b (part ∷ parts) h each = ((h, each.0), each.1)
+
+pub parts_lack : (at : ℕ) (bytes : List ℕ) → AllByRecursion (Lacks at) (parts_of at bytes)
+parts_lack at [] = (tt, tt)
+parts_lack at (b ∷ bytes) = by (b == at) refl (parts_lack at bytes)
+  where
+    by : (test : Bool) → (b == at) ≡ test → AllByRecursion (Lacks at) (parts_of at bytes) → AllByRecursion (Lacks at) (cond test ([] ∷ parts_of at bytes) (onto_first b (parts_of at bytes)))
+    by true e each = (tt, each)
+    by false e each = onto_lacks at b (parts_of at bytes) e each
+
+pub not_empty : (parts : List (List ℕ)) → HasFirst parts → is_empty parts ≡ false
+not_empty [] h = absurd h
+not_empty (part ∷ parts) h = refl
 
 join_blank : (at : ℕ) (parts : List (List ℕ)) → HasFirst parts → joined at ([] ∷ parts) ≡ at ∷ joined at parts
 join_blank at [] h = absurd h

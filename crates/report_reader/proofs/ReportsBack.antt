@@ -15,17 +15,13 @@ use Rattle.report_reader.specs.Lines.{line_of}
 use Rattle.report_reader.specs.Forms.{IsLine, AreLines, IsReport}
 use Rattle.report_reader.specs.Reports.{mode_line, script_line, lines_from, report_of_parts, report_of}
 use Rattle.report_reader.specs.Laws.{AreReadBack}
-use Rattle.report_reader.proofs.Parts.{same_text, same_self, Lacks, lacks_both, next_part, HasFirst, parts_some}
+use Rattle.report_reader.proofs.Parts.{same_text, same_self, Lacks, lacks_both, next_part, HasFirst, parts_some, not_empty}
 use Rattle.report_reader.proofs.Fields.{by_test}
 use Rattle.report_reader.proofs.Json.{json_plain}
 use Rattle.report_reader.proofs.LinesBack.{line_back}
 use Rattle.report_reader.proofs.OneLine.{line_clear}
 
 -- ---- one line
-
-not_empty : (parts : List (List ℕ)) → HasFirst parts → is_empty parts ≡ false
-not_empty [] h = absurd h
-not_empty (part ∷ parts) h = refl
 
 -- the text of a line is not the last one
 not_end : (s : Script) (l : Line) → IsLine s l → same_bytes (line_words l) (codes "end") ≡ false

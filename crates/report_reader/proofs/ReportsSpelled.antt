@@ -5,7 +5,7 @@ use Rattle.apdu.specs.Words.{◌>>=◌, same_bytes, is_empty}
 use Rattle.script_reader.specs.Reading.{Refusal}
 use Rattle.script_reader.specs.declared.types.Script.{Script}
 use Rattle.script_reader.specs.Scripts.{script_of_bytes}
-use Rattle.script_writer.specs.Writing.{script_text}
+use Rattle.script_writer.specs.Writing.{script_data, script_text}
 use Rattle.report.specs.Texts.{line_words, line_text, lines_text, mode_text, report_text}
 use Rattle.report.specs.declared.line.Line.{Line}
 use Rattle.report.specs.declared.line.Mode.{Mode}
@@ -18,7 +18,7 @@ use Rattle.report_reader.specs.Forms.{IsLine, AreLines, IsReport}
 use Rattle.report_reader.specs.Reports.{written_script, script_of, script_line, mode_line, with_line, ended, lines_from, second_line, script_part, mode_part, report_of_parts, report_of}
 use Rattle.report_reader.specs.Laws.{HaveOneSpelling}
 use Rattle.report_reader.proofs.Parts.{same_text, HasFirst, joined, join_parts, cut, behind_some}
-use Rattle.report_reader.proofs.Readings.{Each, each_if, each_word}
+use Rattle.report_reader.proofs.Readings.{Each, each_as, each_if, each_word}
 use Rattle.report_reader.proofs.LinesSpelled.{line_spelled}
 
 -- ---- what holds of whatever is read
@@ -85,11 +85,55 @@ script_spelled text = by (script_of_bytes text) refl
         (ap script_of_bytes is ∙ e, is)) (λ other. tt)
     by (Err refusal) e = tt
 
-no_script : script_of [] ≡ None
-no_script = ?
+some_text : (s : Script) → HasFirst (script_text s)
+unfolding script_data
+some_text s = tt
 
-mode_spelled : (line : List ℕ) → Each (λ (m : Mode). mode_text m ≡ codes "\n" ++ line ++ codes "\n") (mode_line line)
+pub script_line_spelled : (line : List ℕ) → Each (λ (s : Script). (script_of_bytes (script_text s) ≡ Ok s) × (codes "script " ++ script_text s ≡ line)) (script_line line)
+script_line_spelled line =
+    let P : Script → Type 0 = λ s. (script_of_bytes (script_text s) ≡ Ok s) × (codes "script " ++ script_text s ≡ line) in
+    each_word P (first_word line) (codes "script") _ _ (λ e. each_as P (IsScriptOf (behind_word line)) (script_of (behind_word line)) (script_spelled (behind_word line)) (λ s h.
+      let some : HasFirst (behind_word line) = rw h.1 at (some_text s) in
+      (h.0, ap (λ (xs : List ℕ). codes "script " ++ xs) h.1 ∙ ap (λ (xs : List ℕ). xs ++ 32 ∷ behind_word line) (sym e) ∙ cut line some))) tt
+
+pub mode_spelled : (line : List ℕ) → Each (λ (m : Mode). mode_text m ≡ codes "\n" ++ line ++ codes "\n") (mode_line line)
 mode_spelled line =
     let P : Mode → Type 0 = λ m. mode_text m ≡ codes "\n" ++ line ++ codes "\n" in
     each_word P line (codes "mode replay") _ _ (λ e. rw e refl)
     (each_word P line (codes "mode run") _ _ (λ e. rw e refl) tt)
+
+-- ---- the report
+
+-- a report whose text this is
+abbrev IsReportOf : List ℕ → Report → Type 0
+IsReportOf text r = IsReport r × (report_text r ≡ text)
+
+parts_spelled : (parts : List (List ℕ)) → OfRead (IsReportOf (joined 10 parts)) (report_of_parts parts)
+parts_spelled [] = tt
+parts_spelled (first ∷ []) = tt
+parts_spelled (first ∷ second ∷ []) = read_then (IsReportOf (joined 10 (first ∷ second ∷ []))) _ (script_part first) _ (read_placed _ 1 (script_line first) (script_line_spelled first)) (λ s h. tt)
+parts_spelled (first ∷ second ∷ part ∷ parts) =
+    let behind = joined 10 (part ∷ parts) in
+    let P : Report → Type 0 = IsReportOf (first ++ 10 ∷ (second ++ 10 ∷ behind)) in
+    read_then P _ (script_part first) _ (read_placed _ 1 (script_line first) (script_line_spelled first)) (λ s hs.
+      read_then P _ (mode_part second (part ∷ parts)) _ (read_placed _ 2 (mode_line second) (mode_spelled second)) (λ m hm.
+        read_then P (AreLinesOf s behind) (lines_from s 3 [] (part ∷ parts)) _ (lines_spelled s 3 [] (part ∷ parts) tt) (λ ls hl.
+          (record { script = hs.0; lines = hl.0 },
+            append_assoc (codes "script " ++ script_text s ++ mode_text m) (lines_text ls) (codes "end\n")
+            ∙ ap (λ (xs : List ℕ). (codes "script " ++ script_text s ++ mode_text m) ++ xs) hl.1
+            ∙ ap (λ (xs : List ℕ). (xs ++ mode_text m) ++ behind) hs.1
+            ∙ ap (λ (xs : List ℕ). (first ++ xs) ++ behind) hm
+            ∙ append_assoc first (10 ∷ (second ++ codes "\n")) behind
+            ∙ ap (λ (xs : List ℕ). first ++ 10 ∷ xs) (append_assoc second (codes "\n") behind)))))
+
+was_read : {A : Type 0} (P : A → Type 0) (r : Result A ℕ) (x : A) → OfRead P r → r ≡ Ok x → P x
+was_read P (Ok y) x h e =
+    let same : y ≡ x = cc in
+    rw same at h
+was_read P (Err number) x h e = absurd (cc)
+
+pub one_spelling : HaveOneSpelling
+one_spelling bytes r e =
+    let whole = join_parts 10 bytes in
+    let h = was_read (IsReportOf (joined 10 (parts_of 10 bytes))) (report_of bytes) r (parts_spelled (parts_of 10 bytes)) e in
+    (h.0, h.1 ∙ whole)
