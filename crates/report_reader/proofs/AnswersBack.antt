@@ -133,7 +133,7 @@ numbers_back (n ∷ numbers) h = (any_back n h.0, numbers_back numbers h.1)
 
 notices_back : (ends : Bool) (dropped : ℕ) (numbers : List ℕ) → IsNumber dropped → AreNoticed numbers → IsAnswerBack ends (answer.Notices dropped (record { items = numbers }))
 notices_back ends dropped numbers h are =
-    let few : nat_le (length (map decimal numbers)) 64 ≡ true = le-leb (length (map decimal numbers)) 64 (omega (arith, length-map decimal numbers, are.few)) in
+    let few : nat_le (length (map decimal numbers)) 64 ≡ true = le-leb (length (map decimal numbers)) 64 (omega (arith, length-map numbers decimal, are.few)) in
     rw (listed_parts 32 dropped numbers (omega arith), any_back dropped h, few, all_back number numbers (numbers_back numbers are.each)) refl
 
 pub answer_back : (ends : Bool) (given : Answer) → IsAnswer ends given → IsAnswerBack ends given

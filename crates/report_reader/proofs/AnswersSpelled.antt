@@ -6,6 +6,7 @@ use Rattle.std.specs.List.{AllByRecursion}
 use Rattle.std.proofs.lemmas.Bool.{leb-true}
 use Rattle.std.proofs.lemmas.List.{length-map}
 use Rattle.hex.specs.Hex.{encode_upper}
+use Rattle.arrayvec.specs.ArrayVec.{ArrayVec}
 use Rattle.apdu.specs.Words.{two_bytes}
 use Rattle.apdu.specs.Values.{ResponseValue}
 use Rattle.apdu.specs.Apdu.{response_bytes}
@@ -152,15 +153,22 @@ look_spelled ends name count a b c e =
 of_four_spelled : (ends : Bool) (name first second third fourth : List ℕ) → Each (IsAnswerOf ends (name ∷ first ∷ second ∷ third ∷ fourth ∷ [])) (spec.of_four name first second third fourth)
 of_four_spelled ends name first second third fourth = each_word (IsAnswerOf ends (name ∷ first ∷ second ∷ third ∷ fourth ∷ [])) name (codes "look") _ _ (look_spelled ends name first second third fourth) tt
 
+noticed : (ends : Bool) (name dropped : List ℕ) (words : List (List ℕ)) (numbers : List ℕ) (d : ℕ) → name ≡ codes "notices" → IsWritten IsNumber dropped d → length words ≤ 64 → AllByRecursion IsNumber numbers × (map decimal numbers ≡ words) → IsAnswerOf ends (name ∷ dropped ∷ words) (answer.Notices d (record { items = numbers }))
+noticed ends name dropped words numbers d e h few k =
+    let len : length numbers ≤ 64 = omega (arith, few, length-map numbers decimal, ap (λ (ws : List (List ℕ)). length ws) k.1) in
+    let text : listed 32 d numbers ≡ joined 32 (dropped ∷ words) = sym (listed_joined 32 d numbers) ∙ ap (λ (x : List ℕ). joined 32 (x ∷ map decimal numbers)) h.1 ∙ ap (λ (ws : List (List ℕ)). joined 32 (dropped ∷ ws)) k.1 in
+    ((h.0, record { each = k.0; few = len }), ap (λ (xs : List ℕ). 32 ∷ (codes "notices" ++ 32 ∷ xs)) text ∙ ap (λ (x : List ℕ). 32 ∷ (x ++ 32 ∷ joined 32 (dropped ∷ words))) (sym e))
+
 notices_spelled : (ends : Bool) (name : List ℕ) (words : List (List ℕ)) → name ≡ codes "notices" → Each (IsAnswerOf ends (name ∷ words)) (spec.notices words)
 notices_spelled ends name [] e = tt
 notices_spelled ends name (dropped ∷ words) e =
     let P : Answer → Type 0 = IsAnswerOf ends (name ∷ dropped ∷ words) in
+    let Q : List ℕ → Type 0 = λ ns. AllByRecursion IsNumber ns × (map decimal ns ≡ words) in
+    let K : ArrayVec ℕ → Type 0 = λ kept. Q kept.items in
     each_then P (IsWritten IsNumber dropped) (number dropped) _ (any_spelled dropped) (λ d h.
       each_then P (λ _. length words ≤ 64) (rule (nat_le (length words) 64)) _ (each_if (λ _. length words ≤ 64) (nat_le (length words) 64) (Some tt) None (λ few. leb-true (length words) 64 few) (λ many. tt)) (λ _ few.
-        each_then P _ (spec.kept words) _ (each_made _ (λ (ns : List ℕ). AllByRecursion IsNumber ns × (map decimal ns ≡ words)) (all_of number words) (λ numbers. record { items = numbers }) (all_spelled IsNumber number any_spelled words) (λ ns k. k)) (λ kept k.
-          ((h.0, record { each = k.0; few = omega (arith, few, length-map decimal kept.items, ap (λ (ws : List (List ℕ)). length ws) k.1) }),
-            rw e (ap (λ (xs : List ℕ). 32 ∷ (codes "notices" ++ 32 ∷ xs)) (sym (listed_joined 32 d kept.items) ∙ ap (λ (x : List ℕ). joined 32 (x ∷ map decimal kept.items)) h.1 ∙ ap (λ (ws : List (List ℕ)). joined 32 (dropped ∷ ws)) k.1))))))
+        each_then P K (spec.kept words) _ (each_made K Q (all_of number words) (λ ns. record { items = ns }) (all_spelled IsNumber number any_spelled words) (λ ns k. k)) (λ kept k.
+          noticed ends name dropped words kept.items d e h few k)))
 
 -- ---- all answers
 

@@ -1,5 +1,5 @@
 -- The text that is read as a line is the text of that line.
-use Rattle.std.proofs.Common.{◌≡◌, ℕ, ◌+◌, ◌≤◌, Bool, true, false, List, [], ◌∷◌, ◌++◌, Option, Some, None, decimal, zero, suc, if◌then◌else◌, refl, sym, ap, ◌∙◌, append_assoc, arith, codes}
+use Rattle.std.proofs.Common.{◌≡◌, ℕ, ◌+◌, ◌≤◌, Bool, true, false, List, [], ◌∷◌, ◌++◌, Option, Some, None, decimal, zero, suc, if◌then◌else◌, subst, refl, sym, ap, ◌∙◌, append_assoc, arith, codes}
 use Rattle.std.specs.Prelude.{⊤, option_map}
 use Rattle.hex.specs.Hex.{encode_upper}
 use Rattle.apdu.specs.Words.{same_bytes}
@@ -47,7 +47,8 @@ actor_spelled (actor ∷ other ∷ words) = tt
 actor_line : (s : Script) (kind name : List ℕ) (words : List (List ℕ)) (make : ℕ → Line) → kind ≡ name → ((a : ℕ) → IsByte a → IsLineOf s (name ∷ decimal a ∷ []) (make a)) → Each (IsLineOf s (kind ∷ words)) (option_map make (actor_of words))
 actor_line s kind name words make e each =
     each_made (IsLineOf s (kind ∷ words)) (λ (a : ℕ). IsByte a × (decimal a ∷ [] ≡ words)) (actor_of words) make (actor_spelled words) (λ a h.
-      rw (e, sym h.1) (each a h.0))
+      let same : name ∷ decimal a ∷ [] ≡ kind ∷ words = ap (λ (k : List ℕ). k ∷ decimal a ∷ []) (sym e) ∙ ap (λ (ws : List (List ℕ)). kind ∷ ws) h.1 in
+      subst (λ (ws : List (List ℕ)). IsLineOf s ws (make a)) same (each a h.0))
 
 begin_spelled : (s : Script) (kind : List ℕ) (words : List (List ℕ)) → kind ≡ codes "b" → Each (IsLineOf s (kind ∷ words)) (spec.begin words)
 begin_spelled s kind [] e = tt
@@ -145,10 +146,10 @@ published_text publication name epoch point text = publication ++ 32 ∷ (name +
 
 -- each of them has a byte
 record AreSome (name epoch point text : List ℕ) : Type 0 where
-  name : HasFirst name
-  epoch : HasFirst epoch
-  point : HasFirst point
-  text : HasFirst text
+  has_name : HasFirst name
+  has_epoch : HasFirst epoch
+  has_point : HasFirst point
+  has_text : HasFirst text
 
 abbrev IsPublication : Script → List ℕ → List ℕ → List ℕ → List ℕ → List ℕ → Line → Type 0
 IsPublication s publication name epoch point text l = IsLine s l × AreSome name epoch point text × (line_words l ≡ codes "p " ++ published_text publication name epoch point text)
@@ -184,7 +185,7 @@ published_of_spelled s publication name epoch point text =
           each_then P (λ (n : ℕ). IsWritten IsNumber point n × HasFirst point) (number point) _ (number_some point) (λ n hn.
             each_then P (IsShown text) (content text) _ (content_some text) (λ shown h.
               (record { number = hk.0; family = hf.0; epoch = he.0.0; point = hn.0.0; content = h.0 },
-                record { name = some_family name f hf.0 hf.1; epoch = he.1; point = hn.1; text = h.2 },
+                record { has_name = some_family name f hf.0 hf.1; has_epoch = he.1; has_point = hn.1; has_text = h.2 },
                 rw (hk.1, hf.1, he.0.1, hn.0.1, h.1) (ap (λ (xs : List ℕ). codes "p " ++ xs)
                   (append_assoc ((publication ++ 32 ∷ name) ++ 32 ∷ epoch) (32 ∷ point) (32 ∷ text)
                   ∙ append_assoc (publication ++ 32 ∷ name) (32 ∷ epoch) (32 ∷ (point ++ 32 ∷ text))
@@ -215,11 +216,11 @@ published_spelled s text kind =
 
     whole : AreSome (first_word one) (first_word two) (first_word three) four → codes "p " ++ published_text (first_word rest) (first_word one) (first_word two) (first_word three) four ≡ text
     whole some =
-        let has_one = first_some one some.name in
+        let has_one = first_some one some.has_name in
         let parts : published_text (first_word rest) (first_word one) (first_word two) (first_word three) four ≡ rest =
-            ap (λ (xs : List ℕ). first_word rest ++ 32 ∷ (first_word one ++ 32 ∷ (first_word two ++ 32 ∷ xs))) (cut three some.text)
-            ∙ ap (λ (xs : List ℕ). first_word rest ++ 32 ∷ (first_word one ++ 32 ∷ xs)) (cut two (first_some three some.point))
-            ∙ ap (λ (xs : List ℕ). first_word rest ++ 32 ∷ xs) (cut one (first_some two some.epoch))
+            ap (λ (xs : List ℕ). first_word rest ++ 32 ∷ (first_word one ++ 32 ∷ (first_word two ++ 32 ∷ xs))) (cut three some.has_text)
+            ∙ ap (λ (xs : List ℕ). first_word rest ++ 32 ∷ (first_word one ++ 32 ∷ xs)) (cut two (first_some three some.has_point))
+            ∙ ap (λ (xs : List ℕ). first_word rest ++ 32 ∷ xs) (cut one (first_some two some.has_epoch))
             ∙ cut rest has_one in
         ap (λ (xs : List ℕ). codes "p " ++ xs) parts ∙ ap (λ (xs : List ℕ). xs ++ 32 ∷ rest) (sym kind) ∙ cut text (behind_some rest has_one)
 

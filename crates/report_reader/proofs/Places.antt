@@ -142,8 +142,11 @@ lines_further s k earlier (text ∷ texts) ps qs some other h =
     by false (Ok ls) h more = rw same at (more ls h)
     by false (Err n) h more = absurd h
 
+abbrev reported : Script → Mode → List Line → Result Report ℕ
+reported s m ls = Ok (record { script = s; mode = m; lines = ls })
+
 -- a report is read behind its lines
-lines_were_read : (r : Result (List Line) ℕ) (s : Script) (m : Mode) → WasRead (r >>= λ ls. Ok {E = ℕ} (record { script = s; mode = m; lines = ls })) → WasRead r
+lines_were_read : (r : Result (List Line) ℕ) (s : Script) (m : Mode) → WasRead (r >>= λ ls. reported s m ls) → WasRead r
 lines_were_read (Ok ls) s m h = tt
 lines_were_read (Err n) s m h = h
 
@@ -166,8 +169,8 @@ parts_further (first ∷ []) [] qs some other h = absurd some
 parts_further (first ∷ []) (p ∷ ps) [] some other h = absurd other
 parts_further (first ∷ []) (p ∷ ps) (q ∷ qs) some other h = by (script_part first) h
   where
-    by : (one : Result Script ℕ) → WasRead (one >>= λ s. mode_part p ps >>= λ m. lines_from s 3 [] ps >>= λ ls. Ok {E = ℕ} (record { script = s; mode = m; lines = ls }))
-        → Fails (From 2) (one >>= λ s. mode_part q qs >>= λ m. lines_from s 3 [] qs >>= λ ls. Ok {E = ℕ} (record { script = s; mode = m; lines = ls }))
+    by : (one : Result Script ℕ) → WasRead (one >>= λ s. mode_part p ps >>= λ m. lines_from s 3 [] ps >>= λ ls. reported s m ls)
+        → Fails (From 2) (one >>= λ s. mode_part q qs >>= λ m. lines_from s 3 [] qs >>= λ ls. reported s m ls)
     by (Err n) h = absurd h
     by (Ok s) h =
         then_fails (From 2) (mode_part q qs) _ (placed_fails (From 2) 2 (second_line q qs) (omega arith)) (λ m.
@@ -177,8 +180,8 @@ parts_further (first ∷ second ∷ texts) ps qs some other h =
     let right = mode_some second (texts ++ qs) (some_behind texts qs other) in
     rw right (by (script_part first) (placed 2 (mode_line second)) (rw left at h))
   where
-    by : (one : Result Script ℕ) (two : Result Mode ℕ) → WasRead (one >>= λ s. two >>= λ m. lines_from s 3 [] (texts ++ ps) >>= λ ls. Ok {E = ℕ} (record { script = s; mode = m; lines = ls }))
-        → Fails (From (1 + length (first ∷ second ∷ texts))) (one >>= λ s. two >>= λ m. lines_from s 3 [] (texts ++ qs) >>= λ ls. Ok {E = ℕ} (record { script = s; mode = m; lines = ls }))
+    by : (one : Result Script ℕ) (two : Result Mode ℕ) → WasRead (one >>= λ s. two >>= λ m. lines_from s 3 [] (texts ++ ps) >>= λ ls. reported s m ls)
+        → Fails (From (1 + length (first ∷ second ∷ texts))) (one >>= λ s. two >>= λ m. lines_from s 3 [] (texts ++ qs) >>= λ ls. reported s m ls)
     by (Err n) two h = absurd h
     by (Ok s) (Err n) h = absurd h
     by (Ok s) (Ok m) h =
@@ -196,3 +199,177 @@ no_place bytes n e h =
     let further = parts_further h.lines ps qs (parts_some 10 h.further) (parts_some 10 h.behind) was in
     let late : 1 + length h.lines ≤ n = rw other at further in
     omega (arith, late, h.count)
+
+-- ---- the lines before have their places
+
+-- what was read of the lines before the one that is refused
+record SoFar (s : Script) (k n : ℕ) (earlier : List Line) (parts : List (List ℕ)) : Type 0 where
+  texts : List (List ℕ)
+  rest : List (List ℕ)
+  whole : texts ++ rest ≡ parts
+  some : HasFirst rest
+  count : k + length texts ≡ n
+  lines : List Line
+  are : AreLines s lines
+  further : List ℕ
+  same : (lines_text earlier ++ with_feeds texts) ++ further ≡ lines_text lines ++ codes "end\n"
+
+stops : (s : Script) (k n : ℕ) (earlier : List Line) (parts : List (List ℕ)) → HasFirst parts → AreLines s earlier → k ≡ n → SoFar s k n earlier parts
+stops s k n earlier parts some h e = record {
+  texts = [];
+  rest = parts;
+  whole = refl;
+  some = some;
+  count = omega (arith, e);
+  lines = earlier;
+  are = h;
+  further = codes "end\n";
+  same = ap (λ (xs : List ℕ). xs ++ codes "end\n") (append-nil (lines_text earlier));
+}
+
+-- `end` was read, and something stands behind it
+ends_so : (s : Script) (k n : ℕ) (earlier : List Line) (text next : List ℕ) (parts : List (List ℕ)) → AreLines s earlier → text ≡ codes "end" → k + 1 ≡ n → SoFar s k n earlier (text ∷ next ∷ parts)
+ends_so s k n earlier text next parts h e count = record {
+  texts = text ∷ [];
+  rest = next ∷ parts;
+  whole = refl;
+  some = tt;
+  count = count;
+  lines = earlier;
+  are = h;
+  further = [];
+  same = append-nil (lines_text earlier ++ with_feeds (text ∷ [])) ∙ rw e refl;
+}
+
+more_so : (s : Script) (k n : ℕ) (earlier : List Line) (l : Line) (text : List ℕ) (parts : List (List ℕ)) → line_words l ≡ text → SoFar s (k + 1) n (l ∷ earlier) parts → SoFar s k n earlier (text ∷ parts)
+more_so s k n earlier l text parts words so =
+    let one : line_text l ≡ text ++ codes "\n" = ap (λ (xs : List ℕ). xs ++ codes "\n") words in
+    let moved : lines_text earlier ++ with_feeds (text ∷ so.texts) ≡ lines_text (l ∷ earlier) ++ with_feeds so.texts =
+        sym (append_assoc (lines_text earlier) (text ++ codes "\n") (with_feeds so.texts)) ∙ ap (λ (xs : List ℕ). (lines_text earlier ++ xs) ++ with_feeds so.texts) (sym one) in
+    record {
+      texts = text ∷ so.texts;
+      rest = so.rest;
+      whole = ap (λ (ps : List (List ℕ)). text ∷ ps) so.whole;
+      some = so.some;
+      count = omega (arith, so.count);
+      lines = so.lines;
+      are = so.are;
+      further = so.further;
+      same = ap (λ (xs : List ℕ). xs ++ so.further) moved ∙ so.same;
+    }
+
+ended_number : (lines : List Line) (k n : ℕ) (parts : List (List ℕ)) → ended lines k parts ≡ Err n → k ≡ n
+ended_number lines k n [] e = cc
+ended_number lines k n ([] ∷ []) e = absurd (cc)
+ended_number lines k n ([] ∷ other ∷ parts) e = cc
+ended_number lines k n ((b ∷ bytes) ∷ parts) e = cc
+
+so_far : (s : Script) (k n : ℕ) (earlier : List Line) (parts : List (List ℕ)) → HasFirst parts → AreLines s earlier → lines_from s k earlier parts ≡ Err n → SoFar s k n earlier parts
+so_far s k n earlier [] some h e = absurd some
+so_far s k n earlier (text ∷ []) some h e = stops s k n earlier (text ∷ []) tt h (cc)
+so_far s k n earlier (text ∷ next ∷ parts) some h e =
+    by (same_bytes text (codes "end")) (line_of s text) refl refl e (λ l is. so_far s (k + 1) n (l ∷ earlier) (next ∷ parts) tt (is, h))
+  where
+    by : (last : Bool) (one : Option Line) → same_bytes text (codes "end") ≡ last → line_of s text ≡ one
+        → (if last then ended earlier (k + 1) (next ∷ parts) else ((placed k one >>= λ l. Ok (l ∷ earlier)) >>= λ ls. lines_from s (k + 1) ls (next ∷ parts))) ≡ Err n
+        → ((l : Line) → IsLine s l → lines_from s (k + 1) (l ∷ earlier) (next ∷ parts) ≡ Err n → SoFar s (k + 1) n (l ∷ earlier) (next ∷ parts))
+        → SoFar s k n earlier (text ∷ next ∷ parts)
+    by true one t o e more = ends_so s k n earlier text next parts h (same_text text (codes "end") t) (ended_number earlier (k + 1) n (next ∷ parts) e)
+    by false None t o e more = stops s k n earlier (text ∷ next ∷ parts) tt h (cc)
+    by false (Some l) t o e more =
+        let is = read_as (λ (x : Line). IsLine s x × (line_words x ≡ text)) (line_of s text) l (line_spelled s text) o in
+        more_so s k n earlier l text (next ∷ parts) is.1 (more l is.0 e)
+
+-- ---- the first two lines
+
+first_has : (bytes first second : List ℕ) (parts : List (List ℕ)) (s : Script) → parts_of 10 bytes ≡ first ∷ second ∷ parts → (script_of_bytes (script_text s) ≡ Ok s) × (codes "script " ++ script_text s ≡ first) → HavePlaces 1 bytes
+first_has bytes first second parts s e h =
+    let lacks : AllByRecursion (Lacks 10) (first ∷ second ∷ parts) = rw e at (parts_lack 10 bytes) in
+    record {
+      lines = first ∷ [];
+      count = refl;
+      each = (one_line first lacks.0, tt);
+      behind = joined 10 (second ∷ parts);
+      begins = joined_are (first ∷ []) (second ∷ parts) tt ∙ ap (joined 10) (sym e) ∙ join_parts 10 bytes;
+      report = record { script = s; mode = Replay; lines = [] };
+      is = record { script = h.0; lines = tt };
+      further = codes "mode replay\nend\n";
+      same = first_same (codes "script " ++ script_text s) h.1;
+    }
+  where
+    first_same : (line : List ℕ) → line ≡ first → with_feeds (first ∷ []) ++ codes "mode replay\nend\n" ≡ line ++ codes "\nmode replay\n" ++ [] ++ codes "end\n"
+    first_same line same =
+        ap (λ (xs : List ℕ). xs ++ codes "mode replay\nend\n") (append-nil (first ++ codes "\n"))
+        ∙ append_assoc first (codes "\n") (codes "mode replay\nend\n")
+        ∙ ap (λ (xs : List ℕ). xs ++ codes "\nmode replay\nend\n") (sym same)
+        ∙ sym (append_assoc line (codes "\nmode replay\n") (codes "end\n"))
+        ∙ ap (λ (xs : List ℕ). xs ++ codes "end\n") (sym (append-nil (line ++ codes "\nmode replay\n")))
+
+later_has : (bytes first second : List ℕ) (parts : List (List ℕ)) (s : Script) (m : Mode) (n : ℕ) → parts_of 10 bytes ≡ first ∷ second ∷ parts → (script_of_bytes (script_text s) ≡ Ok s) × (codes "script " ++ script_text s ≡ first) → mode_text m ≡ codes "\n" ++ second ++ codes "\n" → SoFar s 3 n [] parts → HavePlaces (n - 1) bytes
+later_has bytes first second parts s m n e h hm so =
+    let lacks : AllByRecursion (Lacks 10) (first ∷ second ∷ parts) = rw e at (parts_lack 10 bytes) in
+    let split : first ∷ second ∷ parts ≡ (first ∷ second ∷ so.texts) ++ so.rest = ap (λ (ps : List (List ℕ)). first ∷ second ∷ ps) (sym so.whole) in
+    record {
+      lines = first ∷ second ∷ so.texts;
+      count = omega (arith, so.count);
+      each = front_lines (first ∷ second ∷ so.texts) so.rest (first ∷ second ∷ parts) split lacks;
+      behind = joined 10 so.rest;
+      begins = joined_are (first ∷ second ∷ so.texts) so.rest so.some ∙ ap (joined 10) (sym split ∙ sym e) ∙ join_parts 10 bytes;
+      report = record { script = s; mode = m; lines = so.lines };
+      is = record { script = h.0; lines = so.are };
+      further = so.further;
+      same = later_same;
+    }
+  where
+    behind : List ℕ
+    behind = lines_text so.lines ++ codes "end\n"
+
+    front : (first ++ codes "\n") ++ (second ++ codes "\n") ≡ codes "script " ++ script_text s ++ mode_text m
+    front = append_assoc first (codes "\n") (second ++ codes "\n") ∙ ap (λ (xs : List ℕ). first ++ xs) (sym hm) ∙ ap (λ (xs : List ℕ). xs ++ mode_text m) (sym h.1)
+
+    later_same : with_feeds (first ∷ second ∷ so.texts) ++ so.further ≡ codes "script " ++ script_text s ++ mode_text m ++ lines_text so.lines ++ codes "end\n"
+    later_same =
+        append_assoc (first ++ codes "\n") ((second ++ codes "\n") ++ with_feeds so.texts) so.further
+        ∙ ap (λ (xs : List ℕ). (first ++ codes "\n") ++ xs) (append_assoc (second ++ codes "\n") (with_feeds so.texts) so.further)
+        ∙ sym (append_assoc (first ++ codes "\n") (second ++ codes "\n") (with_feeds so.texts ++ so.further))
+        ∙ ap (λ (xs : List ℕ). xs ++ (with_feeds so.texts ++ so.further)) front
+        ∙ ap (λ (xs : List ℕ). (codes "script " ++ script_text s ++ mode_text m) ++ xs) so.same
+        ∙ sym (append_assoc (codes "script " ++ script_text s ++ mode_text m) (lines_text so.lines) (codes "end\n"))
+
+before : (bytes : List ℕ) (n : ℕ) (parts : List (List ℕ)) → parts_of 10 bytes ≡ parts → report_of_parts parts ≡ Err n → 1 < n → HavePlaces (n - 1) bytes
+before bytes n [] p e some = let no : 1 ≡ n = cc in absurd (omega (arith, no, some))
+before bytes n (first ∷ []) p e some = let no : 1 ≡ n = cc in absurd (omega (arith, no, some))
+before bytes n (first ∷ second ∷ parts) p e some = by_script (script_line first) refl e
+  where
+    by_lines : (s : Script) (m : Mode) (r : Result (List Line) ℕ) (ps : List (List ℕ)) → parts_of 10 bytes ≡ first ∷ second ∷ ps → HasFirst ps → lines_from s 3 [] ps ≡ r → (script_of_bytes (script_text s) ≡ Ok s) × (codes "script " ++ script_text s ≡ first) → mode_text m ≡ codes "\n" ++ second ++ codes "\n"
+        → (r >>= λ ls. reported s m ls) ≡ Err n → HavePlaces (n - 1) bytes
+    by_lines s m (Ok ls) ps p has o hs hm e = absurd (cc)
+    by_lines s m (Err k) ps p has o hs hm e =
+        let same : k ≡ n = cc in
+        later_has bytes first second ps s m n p hs hm (so_far s 3 n [] ps has tt (rw same at o))
+
+    second_has : (s : Script) → (script_of_bytes (script_text s) ≡ Ok s) × (codes "script " ++ script_text s ≡ first) → 2 ≡ n → HavePlaces (n - 1) bytes
+    second_has s hs two =
+        let one : 1 ≡ n - 1 = omega (arith, two) in
+        rw one at (first_has bytes first second parts s p hs)
+
+    by_mode : (s : Script) (o : Option Mode) (ps : List (List ℕ)) → parts ≡ ps → second_line second ps ≡ o → (script_of_bytes (script_text s) ≡ Ok s) × (codes "script " ++ script_text s ≡ first)
+        → (placed 2 o >>= λ m. lines_from s 3 [] ps >>= λ ls. reported s m ls) ≡ Err n → HavePlaces (n - 1) bytes
+    by_mode s None ps q o hs e = second_has s hs (cc)
+    by_mode s (Some m) [] q o hs e = absurd (cc)
+    by_mode s (Some m) (part ∷ ps) q o hs e =
+        let hm = read_as (λ (x : Mode). mode_text x ≡ codes "\n" ++ second ++ codes "\n") (mode_line second) m (mode_spelled second) o in
+        by_lines s m (lines_from s 3 [] (part ∷ ps)) (part ∷ ps) (p ∙ ap (λ (xs : List (List ℕ)). first ∷ second ∷ xs) q) tt refl hs hm e
+
+    by_script : (o : Option Script) → script_line first ≡ o → (placed 1 o >>= λ s. mode_part second parts >>= λ m. lines_from s 3 [] parts >>= λ ls. reported s m ls) ≡ Err n → HavePlaces (n - 1) bytes
+    by_script None o e = let no : 1 ≡ n = cc in absurd (omega (arith, no, some))
+    by_script (Some s) o e =
+        let hs = read_as (λ (x : Script). (script_of_bytes (script_text x) ≡ Ok x) × (codes "script " ++ script_text x ≡ first)) (script_line first) s (script_line_spelled first) o in
+        by_mode s (second_line second parts) parts refl refl hs e
+
+pub names_first : NamesFirst
+names_first bytes n e = record {
+  some = (let h : Fails (From 1) (report_of bytes) = parts_fail_from (parts_of 10 bytes) in rw e at h);
+  before = before bytes n (parts_of 10 bytes) refl e;
+  none = no_place bytes n e;
+}
