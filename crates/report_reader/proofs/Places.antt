@@ -1,6 +1,6 @@
 -- The line that is named is the first one that has no place.
 use Rattle.std.proofs.Common.{◌≡◌, ℕ, ◌+◌, ◌-◌, ◌≤◌, ◌<◌, ◌==◌, ◌||◌, Bool, true, false, List, [], ◌∷◌, ◌++◌, length, Option, Some, None, Result, Ok, Err, cond, if◌then◌else◌, zero, suc, sym, refl, ap, ◌∙◌, append_assoc, append-nil, arith, codes}
-use Rattle.std.specs.Prelude.{⊤}
+use Rattle.std.specs.Prelude.{⊤, IfOk}
 use Rattle.std.specs.List.{AllByRecursion}
 use Rattle.std.proofs.lemmas.Bool.{or_parts, or_from}
 use Rattle.apdu.specs.Words.{◌>>=◌, same_bytes, is_empty, is_one_of}
@@ -12,7 +12,9 @@ use Rattle.report.specs.declared.line.Line.{Line}
 use Rattle.report.specs.declared.line.Mode.{Mode}
 use Rattle.report.specs.declared.line.Mode.TheVariants.{Replay}
 use Rattle.report.specs.declared.lines.Report.{Report}
-use Rattle.report_reader.specs.Reads.{placed}
+use Rattle.report_reader.specs.declared.error.ReportError.{ReportError}
+use Rattle.report_reader.specs.declared.error.ReportError.TheVariants as error
+use Rattle.report_reader.specs.Reads.{placed, AnswersAs}
 use Rattle.report_reader.specs.Words.{parts_of}
 use Rattle.report_reader.specs.Lines.{line_of}
 use Rattle.report_reader.specs.Forms.{IsLine, AreLines, IsReport}
@@ -22,7 +24,7 @@ use Rattle.report_reader.proofs.Parts.{same_text, Lacks, next_part, joined, join
 use Rattle.report_reader.proofs.Readings.{Each, read_as}
 use Rattle.report_reader.proofs.LinesSpelled.{line_spelled}
 use Rattle.report_reader.proofs.ReportsBack.{reports_back}
-use Rattle.report_reader.proofs.ReportsSpelled.{script_line_spelled, mode_spelled}
+use Rattle.report_reader.proofs.ReportsSpelled.{script_line_spelled, mode_spelled, one_spelling}
 
 -- ---- lines with their line feeds
 
@@ -373,3 +375,16 @@ names_first bytes n e = record {
   before = before bytes n (parts_of 10 bytes) refl e;
   none = no_place bytes n e;
 }
+
+-- what the reader's answer says of the bytes
+
+pub reads_text : (bytes : List ℕ) (answer : Result Report ReportError) → AnswersAs (report_of bytes) answer → IfOk answer (λ r. IsReport r × (report_text r ≡ bytes))
+reads_text bytes (Ok r) h = one_spelling bytes r h
+reads_text bytes (Err error) h = tt
+
+pub refuses_first : (bytes : List ℕ) (answer : Result Report ReportError) → AnswersAs (report_of bytes) answer → (n : ℕ) → answer ≡ Err (error.Refused n) → IsFirst n bytes
+refuses_first bytes (Ok r) h n e = absurd (cc)
+refuses_first bytes (Err error.Memory) h n e = absurd (cc)
+refuses_first bytes (Err (error.Refused k)) h n e =
+    let same : k ≡ n = cc in
+    names_first bytes n (rw same at h)
