@@ -3,6 +3,8 @@ use Rattle.std.proofs.Common.{◌≡◌, ℕ, ◌+◌, Bool, true, false, List, 
 use Rattle.apdu.specs.Words.{◌>>=◌, same_bytes, is_empty}
 use Rattle.serde_json.specs.Written.{compact_text}
 use Rattle.script_reader.specs.declared.types.Script.{Script}
+use Rattle.std.specs.Prelude.{IfOk}
+use Rattle.script_reader.specs.Rules.{keeps_rules}
 use Rattle.script_reader.specs.Scripts.{script_of_bytes}
 use Rattle.script_writer.specs.Writing.{script_data, script_text}
 use Rattle.report.specs.Texts.{line_words, line_text, lines_text, mode_text, report_text}
@@ -107,3 +109,9 @@ reports_back r h =
     ap report_of (text_is r.script r.mode r.lines)
     ∙ ap report_of_parts (first ∙ ap (λ (ps : List (List ℕ)). (codes "script " ++ script_text r.script) ∷ ps) second)
     ∙ read_parts r.script r.mode r.lines (parts_of 10 rest) (parts_some 10 rest) h.script (lines_back r.script r.lines h.lines)
+
+-- what was written of a report whose script is read from its own text
+pub written_back : {E : Type 0} (r : Report) (text : List ℕ) → text ≡ script_text r.script → (keeps_rules r.script ≡ true → script_of_bytes text ≡ Ok r.script) → (written : Result (List ℕ) E) → IfOk written (λ bytes. bytes ≡ report_text r)
+    → IfOk written (λ bytes. keeps_rules r.script ≡ true → AreLines r.script r.lines → report_of bytes ≡ Ok r)
+written_back r text same back (Ok bytes) is = λ keeps lines. ap report_of is ∙ reports_back r (record { script = ap script_of_bytes (sym same) ∙ back keeps; lines = lines })
+written_back r text same back (Err error) is = tt
