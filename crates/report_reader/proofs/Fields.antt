@@ -119,8 +119,8 @@ all_spelled In read spelled [] = (tt, refl)
 all_spelled In read spelled (word ∷ words) =
     let P : List ℕ → Type 0 = λ ns. AllByRecursion In ns × (map decimal ns ≡ word ∷ words) in
     each_then P (IsWritten In word) (read word) _ (spelled word) (λ n h.
-      each_then P (λ (ns : List ℕ). AllByRecursion In ns × (map decimal ns ≡ words)) (all_of read words) _ (all_spelled In read spelled words) (λ ns k.
-        ((h.0, k.0), rw (h.1, k.1) refl)))
+    each_then P (λ (ns : List ℕ). AllByRecursion In ns × (map decimal ns ≡ words)) (all_of read words) _ (all_spelled In read spelled words) (λ ns k.
+    ((h.0, k.0), rw (h.1, k.1) refl)))
 
 -- ---- rows
 
@@ -172,7 +172,7 @@ family_spelled word =
     let P : ℕ → Type 0 = λ f. IsFamily f × (family_name f ≡ word) in
     each_word P word (codes "records") _ _ (λ e. (omega arith, sym e))
     (each_word P word (codes "phonebook") _ _ (λ e. (omega arith, sym e))
-      (each_word P word (codes "fixed") _ _ (λ e. (omega arith, sym e)) tt))
+    (each_word P word (codes "fixed") _ _ (λ e. (omega arith, sym e)) tt))
 
 pub family_plain : (f : ℕ) → IsFamily f → Lacks 32 (family_name f) × Lacks 10 (family_name f)
 family_plain zero h = (by_test 32 (codes "records") refl, by_test 10 (codes "records") refl)

@@ -96,9 +96,9 @@ content_spelled text =
     let P : List ℕ → Type 0 = λ shown. (shown ≡ text) × Lacks 10 shown in
     each_if P (is_utf8 text) _ None
     (λ utf8. each_then P (λ d. ⊤) (read text) (text_of text) (of_any (read text)) (λ d h.
-      each_if P (is_whole d && same_bytes (compact_text d) text) (Some (compact_text d)) None
-      (λ e. (same_text (compact_text d) text (second (is_whole d) (same_bytes (compact_text d) text) e), json_plain d))
-      (λ e. tt)))
+    each_if P (is_whole d && same_bytes (compact_text d) text) (Some (compact_text d)) None
+    (λ e. (same_text (compact_text d) text (second (is_whole d) (same_bytes (compact_text d) text) e), json_plain d))
+    (λ e. tt)))
     (λ e. tt)
   where
     of_any : (o : Option Data) → Each (λ d. ⊤) o

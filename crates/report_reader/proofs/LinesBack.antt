@@ -79,18 +79,24 @@ published_parts : (k f e n : ℕ) (text : List ℕ) → IsFamily f → published
 published_parts k f e n text h =
     let plain : (m : ℕ) → _ = λ m. decimal_plain 32 m (omega arith) in
     let family = family_name f ++ 32 ∷ behind_family e n text in
-    rw (first_next (decimal k) family (plain k), behind_next (decimal k) family (plain k),
-      first_next (family_name f) (behind_family e n text) (family_plain f h).0, behind_next (family_name f) (behind_family e n text) (family_plain f h).0,
-      first_next (decimal e) (decimal n ++ 32 ∷ text) (plain e), behind_next (decimal e) (decimal n ++ 32 ∷ text) (plain e),
-      first_next (decimal n) text (plain n), behind_next (decimal n) text (plain n)) refl
+    rw (
+      first_next (decimal k) family (plain k),
+      behind_next (decimal k) family (plain k),
+      first_next (family_name f) (behind_family e n text) (family_plain f h).0,
+      behind_next (family_name f) (behind_family e n text) (family_plain f h).0,
+      first_next (decimal e) (decimal n ++ 32 ∷ text) (plain e),
+      behind_next (decimal e) (decimal n ++ 32 ∷ text) (plain e),
+      first_next (decimal n) text (plain n),
+      behind_next (decimal n) text (plain n),
+    ) refl
 
 published_back : (s : Script) (k f e n : ℕ) (text : List ℕ) → IsPublished k f e n text → IsBack s (line.Published k f e n text)
 published_back s k f e n text h =
     let rest = family_name f in
     let whole : (((decimal k ++ 32 ∷ rest) ++ 32 ∷ decimal e) ++ 32 ∷ decimal n) ++ 32 ∷ text ≡ decimal k ++ 32 ∷ (rest ++ 32 ∷ behind_family e n text) =
-        append_assoc ((decimal k ++ 32 ∷ rest) ++ 32 ∷ decimal e) (32 ∷ decimal n) (32 ∷ text)
-        ∙ append_assoc (decimal k ++ 32 ∷ rest) (32 ∷ decimal e) (32 ∷ (decimal n ++ 32 ∷ text))
-        ∙ append_assoc (decimal k) (32 ∷ rest) (32 ∷ behind_family e n text) in
+    append_assoc ((decimal k ++ 32 ∷ rest) ++ 32 ∷ decimal e) (32 ∷ decimal n) (32 ∷ text)
+    ∙ append_assoc (decimal k ++ 32 ∷ rest) (32 ∷ decimal e) (32 ∷ (decimal n ++ 32 ∷ text))
+    ∙ append_assoc (decimal k) (32 ∷ rest) (32 ∷ behind_family e n text) in
     ap published whole ∙ published_parts k f e n text h.family ∙ rw (any_back k h.number, family_back f h.family, any_back e h.epoch, any_back n h.point, h.content) refl
 
 -- ---- answers
@@ -139,9 +145,9 @@ answered_from : (s : Script) (a i : ℕ) (given : Answer) (text rest : List ℕ)
     → line_of s ((codes "a" ++ number_text a ++ number_text i) ++ text) ≡ Some (line.Answered a i given)
 answered_from s a i given text rest begins h k e =
     let words : words_of ((decimal a ++ 32 ∷ decimal i) ++ 32 ∷ rest) ≡ decimal a ∷ decimal i ∷ words_of rest =
-        ap words_of (append_assoc (decimal a) (32 ∷ decimal i) (32 ∷ rest))
-        ∙ next_number a (decimal i ++ 32 ∷ rest)
-        ∙ ap (λ (ws : List (List ℕ)). decimal a ∷ ws) (next_number i rest) in
+    ap words_of (append_assoc (decimal a) (32 ∷ decimal i) (32 ∷ rest))
+    ∙ next_number a (decimal i ++ 32 ∷ rest)
+    ∙ ap (λ (ws : List (List ℕ)). decimal a ∷ ws) (next_number i rest) in
     ap (λ (x : List ℕ). line_of s ((codes "a" ++ number_text a ++ number_text i) ++ x)) begins
     ∙ ap (answered s) words
     ∙ answered_words s a i given (words_of rest) h k e

@@ -47,8 +47,8 @@ actor_spelled (actor ∷ other ∷ words) = tt
 actor_line : (s : Script) (kind name : List ℕ) (words : List (List ℕ)) (make : ℕ → Line) → kind ≡ name → ((a : ℕ) → IsByte a → IsLineOf s (name ∷ decimal a ∷ []) (make a)) → Each (IsLineOf s (kind ∷ words)) (option_map make (actor_of words))
 actor_line s kind name words make e each =
     each_made (IsLineOf s (kind ∷ words)) (λ (a : ℕ). IsByte a × (decimal a ∷ [] ≡ words)) (actor_of words) make (actor_spelled words) (λ a h.
-      let same : name ∷ decimal a ∷ [] ≡ kind ∷ words = ap (λ (k : List ℕ). k ∷ decimal a ∷ []) (sym e) ∙ ap (λ (ws : List (List ℕ)). kind ∷ ws) h.1 in
-      subst (λ (ws : List (List ℕ)). IsLineOf s ws (make a)) same (each a h.0))
+    let same : name ∷ decimal a ∷ [] ≡ kind ∷ words = ap (λ (k : List ℕ). k ∷ decimal a ∷ []) (sym e) ∙ ap (λ (ws : List (List ℕ)). kind ∷ ws) h.1 in
+    subst (λ (ws : List (List ℕ)). IsLineOf s ws (make a)) same (each a h.0))
 
 begin_spelled : (s : Script) (kind : List ℕ) (words : List (List ℕ)) → kind ≡ codes "b" → Each (IsLineOf s (kind ∷ words)) (spec.begin words)
 begin_spelled s kind [] e = tt
@@ -56,33 +56,33 @@ begin_spelled s kind (actor ∷ []) e = tt
 begin_spelled s kind (actor ∷ op ∷ []) e =
     let P : Line → Type 0 = IsLineOf s (kind ∷ actor ∷ op ∷ []) in
     each_then P (IsWritten IsByte actor) (byte actor) _ (byte_spelled actor) (λ a h.
-      each_then P (IsWritten IsPlace op) (place op) _ (place_spelled op) (λ i k.
-        ((h.0, k.0), rw (e, h.1, k.1) refl)))
+    each_then P (IsWritten IsPlace op) (place op) _ (place_spelled op) (λ i k.
+    ((h.0, k.0), rw (e, h.1, k.1) refl)))
 begin_spelled s kind (actor ∷ op ∷ other ∷ words) e = tt
 
 exchange_of_spelled : (s : Script) (kind actor sent answered : List ℕ) → kind ≡ codes "x" → Each (IsLineOf s (kind ∷ actor ∷ sent ∷ answered ∷ [])) (spec.exchange_of actor sent answered)
 exchange_of_spelled s kind actor sent answered e =
     let P : Line → Type 0 = IsLineOf s (kind ∷ actor ∷ sent ∷ answered ∷ []) in
     each_then P (IsWritten IsByte actor) (byte actor) _ (byte_spelled actor) (λ a h.
-      each_then P (λ (c : CommandValue). IsCommand c × (encode_upper (command_bytes c) ≡ sent)) (command sent) _ (command_spelled sent) (λ c hc.
-        each_then P (λ (r : ResponseValue). IsResponse r × (encode_upper (response_bytes r) ≡ answered)) (response answered) _ (response_spelled answered) (λ r hr.
-          ((h.0, hc.0, hr.0), rw (e, h.1, hc.1, hr.1) (ap (λ (xs : List ℕ). codes "x " ++ xs) (append_assoc actor (32 ∷ sent) (32 ∷ answered)))))))
+    each_then P (λ (c : CommandValue). IsCommand c × (encode_upper (command_bytes c) ≡ sent)) (command sent) _ (command_spelled sent) (λ c hc.
+    each_then P (λ (r : ResponseValue). IsResponse r × (encode_upper (response_bytes r) ≡ answered)) (response answered) _ (response_spelled answered) (λ r hr.
+    ((h.0, hc.0, hr.0), rw (e, h.1, hc.1, hr.1) (ap (λ (xs : List ℕ). codes "x " ++ xs) (append_assoc actor (32 ∷ sent) (32 ∷ answered)))))))
 
 failed_of_spelled : (s : Script) (kind actor sent word : List ℕ) → kind ≡ codes "f" → Each (IsLineOf s (kind ∷ actor ∷ sent ∷ word ∷ [])) (spec.failed_of actor sent word)
 failed_of_spelled s kind actor sent word e =
     let P : Line → Type 0 = IsLineOf s (kind ∷ actor ∷ sent ∷ word ∷ []) in
     each_then P (IsWritten IsByte actor) (byte actor) _ (byte_spelled actor) (λ a h.
-      each_then P (λ (c : CommandValue). IsCommand c × (encode_upper (command_bytes c) ≡ sent)) (command sent) _ (command_spelled sent) (λ c hc.
-        each_then P (λ (acted : Bool). acted_text acted ≡ 32 ∷ word) (spec.acted_of word) _ (acted_spelled word) (λ acted k.
-          ((h.0, hc.0), rw (e, h.1, hc.1, k) (ap (λ (xs : List ℕ). codes "f " ++ xs) (append_assoc actor (32 ∷ sent) (32 ∷ word)))))))
+    each_then P (λ (c : CommandValue). IsCommand c × (encode_upper (command_bytes c) ≡ sent)) (command sent) _ (command_spelled sent) (λ c hc.
+    each_then P (λ (acted : Bool). acted_text acted ≡ 32 ∷ word) (spec.acted_of word) _ (acted_spelled word) (λ acted k.
+    ((h.0, hc.0), rw (e, h.1, hc.1, k) (ap (λ (xs : List ℕ). codes "f " ++ xs) (append_assoc actor (32 ∷ sent) (32 ∷ word)))))))
 
 epoch_end_of_spelled : (s : Script) (kind publication epoch event : List ℕ) → kind ≡ codes "z" → Each (IsLineOf s (kind ∷ publication ∷ epoch ∷ event ∷ [])) (spec.epoch_end_of publication epoch event)
 epoch_end_of_spelled s kind publication epoch event e =
     let P : Line → Type 0 = IsLineOf s (kind ∷ publication ∷ epoch ∷ event ∷ []) in
     each_then P (IsWritten IsNumber publication) (number publication) _ (any_spelled publication) (λ k h.
-      each_then P (IsWritten IsNumber epoch) (number epoch) _ (any_spelled epoch) (λ m he.
-        each_then P (IsWritten IsNumber event) (number event) _ (any_spelled event) (λ n hn.
-          ((h.0, he.0, hn.0), rw (e, h.1, he.1, hn.1) (ap (λ (xs : List ℕ). codes "z " ++ xs) (append_assoc publication (32 ∷ epoch) (32 ∷ event)))))))
+    each_then P (IsWritten IsNumber epoch) (number epoch) _ (any_spelled epoch) (λ m he.
+    each_then P (IsWritten IsNumber event) (number event) _ (any_spelled event) (λ n hn.
+    ((h.0, he.0, hn.0), rw (e, h.1, he.1, hn.1) (ap (λ (xs : List ℕ). codes "z " ++ xs) (append_assoc publication (32 ∷ epoch) (32 ∷ event)))))))
 
 of_three_spelled : (s : Script) (kind : List ℕ) (read : List ℕ → List ℕ → List ℕ → Option Line) (words : List (List ℕ)) → ((a b c : List ℕ) → Each (IsLineOf s (kind ∷ a ∷ b ∷ c ∷ [])) (read a b c)) → Each (IsLineOf s (kind ∷ words)) (spec.of_three read words)
 of_three_spelled s kind read [] h = tt
@@ -112,8 +112,8 @@ world_spelled s kind (actor ∷ []) e = each_then (IsLineOf s (kind ∷ actor �
 world_spelled s kind (actor ∷ name ∷ words) e =
     let P : Line → Type 0 = IsLineOf s (kind ∷ actor ∷ name ∷ words) in
     each_then P (IsWritten IsByte actor) (byte actor) _ (byte_spelled actor) (λ a h.
-      each_then P (IsEventOf (name ∷ words)) (spec.event_of (name ∷ words)) _ (event_spelled (name ∷ words)) (λ event k.
-        ((h.0, k.0), rw (e, h.1, k.1) refl)))
+    each_then P (IsEventOf (name ∷ words)) (spec.event_of (name ∷ words)) _ (event_spelled (name ∷ words)) (λ event k.
+    ((h.0, k.0), rw (e, h.1, k.1) refl)))
 
 refused_spelled : (s : Script) (kind : List ℕ) (words : List (List ℕ)) → kind ≡ codes "d" → Each (IsLineOf s (kind ∷ words)) (spec.refused words)
 refused_spelled s kind [] e = tt
@@ -121,8 +121,8 @@ refused_spelled s kind (name ∷ []) e = tt
 refused_spelled s kind (name ∷ event ∷ []) e =
     let P : Line → Type 0 = IsLineOf s (kind ∷ name ∷ event ∷ []) in
     each_then P (λ (f : ℕ). IsFamily f × (family_name f ≡ name)) (family name) _ (family_spelled name) (λ f h.
-      each_then P (IsWritten IsNumber event) (number event) _ (any_spelled event) (λ n k.
-        ((h.0, k.0), rw (e, h.1, k.1) refl)))
+    each_then P (IsWritten IsNumber event) (number event) _ (any_spelled event) (λ n k.
+    ((h.0, k.0), rw (e, h.1, k.1) refl)))
 refused_spelled s kind (name ∷ event ∷ other ∷ words) e = tt
 
 -- ---- answers
@@ -134,9 +134,9 @@ answered_spelled s kind (actor ∷ op ∷ []) e = tt
 answered_spelled s kind (actor ∷ op ∷ name ∷ words) e =
     let P : Line → Type 0 = IsLineOf s (kind ∷ actor ∷ op ∷ name ∷ words) in
     each_then P (IsWritten IsByte actor) (byte actor) _ (byte_spelled actor) (λ a h.
-      each_then P (IsWritten IsPlace op) (place op) _ (place_spelled op) (λ i k.
-        each_then P (IsAnswerOf (ends s a i) (name ∷ words)) (answer_of (ends s a i) name words) _ (answer_spelled (ends s a i) name words) (λ given g.
-          ((h.0, k.0, g.0), rw (e, g.1, h.1, k.1) (ap (λ (xs : List ℕ). codes "a " ++ xs) (append_assoc actor (32 ∷ op) (32 ∷ joined 32 (name ∷ words))))))))
+    each_then P (IsWritten IsPlace op) (place op) _ (place_spelled op) (λ i k.
+    each_then P (IsAnswerOf (ends s a i) (name ∷ words)) (answer_of (ends s a i) name words) _ (answer_spelled (ends s a i) name words) (λ given g.
+    ((h.0, k.0, g.0), rw (e, g.1, h.1, k.1) (ap (λ (xs : List ℕ). codes "a " ++ xs) (append_assoc actor (32 ∷ op) (32 ∷ joined 32 (name ∷ words))))))))
 
 -- ---- publications
 
@@ -180,16 +180,17 @@ published_of_spelled : (s : Script) (publication name epoch point text : List �
 published_of_spelled s publication name epoch point text =
     let P : Line → Type 0 = IsPublication s publication name epoch point text in
     each_then P (IsWritten IsNumber publication) (number publication) _ (any_spelled publication) (λ k hk.
-      each_then P (λ (f : ℕ). IsFamily f × (family_name f ≡ name)) (family name) _ (family_spelled name) (λ f hf.
-        each_then P (λ (n : ℕ). IsWritten IsNumber epoch n × HasFirst epoch) (number epoch) _ (number_some epoch) (λ e he.
-          each_then P (λ (n : ℕ). IsWritten IsNumber point n × HasFirst point) (number point) _ (number_some point) (λ n hn.
-            each_then P (IsShown text) (content text) _ (content_some text) (λ shown h.
-              (record { number = hk.0; family = hf.0; epoch = he.0.0; point = hn.0.0; content = h.0 },
-                record { has_name = some_family name f hf.0 hf.1; has_epoch = he.1; has_point = hn.1; has_text = h.2 },
-                rw (hk.1, hf.1, he.0.1, hn.0.1, h.1) (ap (λ (xs : List ℕ). codes "p " ++ xs)
-                  (append_assoc ((publication ++ 32 ∷ name) ++ 32 ∷ epoch) (32 ∷ point) (32 ∷ text)
-                  ∙ append_assoc (publication ++ 32 ∷ name) (32 ∷ epoch) (32 ∷ (point ++ 32 ∷ text))
-                  ∙ append_assoc publication (32 ∷ name) (32 ∷ (epoch ++ 32 ∷ (point ++ 32 ∷ text)))))))))))
+    each_then P (λ (f : ℕ). IsFamily f × (family_name f ≡ name)) (family name) _ (family_spelled name) (λ f hf.
+    each_then P (λ (n : ℕ). IsWritten IsNumber epoch n × HasFirst epoch) (number epoch) _ (number_some epoch) (λ e he.
+    each_then P (λ (n : ℕ). IsWritten IsNumber point n × HasFirst point) (number point) _ (number_some point) (λ n hn.
+    each_then P (IsShown text) (content text) _ (content_some text) (λ shown h. (
+      record { number = hk.0; family = hf.0; epoch = he.0.0; point = hn.0.0; content = h.0 },
+      record { has_name = some_family name f hf.0 hf.1; has_epoch = he.1; has_point = hn.1; has_text = h.2 },
+      rw (hk.1, hf.1, he.0.1, hn.0.1, h.1) (ap (λ (xs : List ℕ). codes "p " ++ xs)
+          (append_assoc ((publication ++ 32 ∷ name) ++ 32 ∷ epoch) (32 ∷ point) (32 ∷ text)
+          ∙ append_assoc (publication ++ 32 ∷ name) (32 ∷ epoch) (32 ∷ (point ++ 32 ∷ text))
+          ∙ append_assoc publication (32 ∷ name) (32 ∷ (epoch ++ 32 ∷ (point ++ 32 ∷ text))))),
+    ))))))
 
 -- a line of this text
 abbrev IsLineText : Script → List ℕ → Line → Type 0
@@ -218,10 +219,10 @@ published_spelled s text kind =
     whole some =
         let has_one = first_some one some.has_name in
         let parts : published_text (first_word rest) (first_word one) (first_word two) (first_word three) four ≡ rest =
-            ap (λ (xs : List ℕ). first_word rest ++ 32 ∷ (first_word one ++ 32 ∷ (first_word two ++ 32 ∷ xs))) (cut three some.has_text)
-            ∙ ap (λ (xs : List ℕ). first_word rest ++ 32 ∷ (first_word one ++ 32 ∷ xs)) (cut two (first_some three some.has_point))
-            ∙ ap (λ (xs : List ℕ). first_word rest ++ 32 ∷ xs) (cut one (first_some two some.has_epoch))
-            ∙ cut rest has_one in
+        ap (λ (xs : List ℕ). first_word rest ++ 32 ∷ (first_word one ++ 32 ∷ (first_word two ++ 32 ∷ xs))) (cut three some.has_text)
+        ∙ ap (λ (xs : List ℕ). first_word rest ++ 32 ∷ (first_word one ++ 32 ∷ xs)) (cut two (first_some three some.has_point))
+        ∙ ap (λ (xs : List ℕ). first_word rest ++ 32 ∷ xs) (cut one (first_some two some.has_epoch))
+        ∙ cut rest has_one in
         ap (λ (xs : List ℕ). codes "p " ++ xs) parts ∙ ap (λ (xs : List ℕ). xs ++ 32 ∷ rest) (sym kind) ∙ cut text (behind_some rest has_one)
 
 -- ---- all lines
@@ -231,41 +232,41 @@ event_line_spelled s kind words =
     let P : Line → Type 0 = IsLineOf s (kind ∷ words) in
     each_word P kind (codes "x") _ _ (λ e. of_three_spelled s kind spec.exchange_of words (λ a b c. exchange_of_spelled s kind a b c e))
     (each_word P kind (codes "f") _ _ (λ e. of_three_spelled s kind spec.failed_of words (λ a b c. failed_of_spelled s kind a b c e))
-      (each_word P kind (codes "r") _ _ (λ e. actor_line s kind (codes "r") words line.Reset e (λ a h. (h, refl)))
-        (each_word P kind (codes "q") _ _ (λ e. actor_line s kind (codes "q") words line.ResetFailed e (λ a h. (h, refl)))
-          (each_word P kind (codes "w") _ _ (λ e. world_spelled s kind words e) tt))))
+    (each_word P kind (codes "r") _ _ (λ e. actor_line s kind (codes "r") words line.Reset e (λ a h. (h, refl)))
+    (each_word P kind (codes "q") _ _ (λ e. actor_line s kind (codes "q") words line.ResetFailed e (λ a h. (h, refl)))
+    (each_word P kind (codes "w") _ _ (λ e. world_spelled s kind words e) tt))))
 
 words_spelled : (s : Script) (kind : List ℕ) (words : List (List ℕ)) → Each (IsLineOf s (kind ∷ words)) (line_of_words s kind words)
 words_spelled s kind words =
     let P : Line → Type 0 = IsLineOf s (kind ∷ words) in
     each_word P kind (codes "t") _ _ (λ e. actor_line s kind (codes "t") words line.Turn e (λ a h. (h, refl)))
     (each_word P kind (codes "b") _ _ (λ e. begin_spelled s kind words e)
-      (each_word P kind (codes "a") _ _ (λ e. answered_spelled s kind words e)
-        (each_word P kind (codes "z") _ _ (λ e. of_three_spelled s kind spec.epoch_end_of words (λ a b c. epoch_end_of_spelled s kind a b c e))
-          (each_word P kind (codes "d") _ _ (λ e. refused_spelled s kind words e) (event_line_spelled s kind words)))))
+    (each_word P kind (codes "a") _ _ (λ e. answered_spelled s kind words e)
+    (each_word P kind (codes "z") _ _ (λ e. of_three_spelled s kind spec.epoch_end_of words (λ a b c. epoch_end_of_spelled s kind a b c e))
+    (each_word P kind (codes "d") _ _ (λ e. refused_spelled s kind words e) (event_line_spelled s kind words)))))
 
 -- a kind alone is no line
 no_words : (s : Script) (kind : List ℕ) (P : Line → Type 0) → Each P (line_of_words s kind ([] ∷ []))
 no_words s kind P =
     each_word P kind (codes "t") _ _ (λ e. tt)
     (each_word P kind (codes "b") _ _ (λ e. tt)
-      (each_word P kind (codes "a") _ _ (λ e. tt)
-        (each_word P kind (codes "z") _ _ (λ e. tt)
-          (each_word P kind (codes "d") _ _ (λ e. tt)
-            (each_word P kind (codes "x") _ _ (λ e. tt)
-              (each_word P kind (codes "f") _ _ (λ e. tt)
-                (each_word P kind (codes "r") _ _ (λ e. tt)
-                  (each_word P kind (codes "q") _ _ (λ e. tt)
-                    (each_word P kind (codes "w") _ _ (λ e. tt) tt)))))))))
+    (each_word P kind (codes "a") _ _ (λ e. tt)
+    (each_word P kind (codes "z") _ _ (λ e. tt)
+    (each_word P kind (codes "d") _ _ (λ e. tt)
+    (each_word P kind (codes "x") _ _ (λ e. tt)
+    (each_word P kind (codes "f") _ _ (λ e. tt)
+    (each_word P kind (codes "r") _ _ (λ e. tt)
+    (each_word P kind (codes "q") _ _ (λ e. tt)
+    (each_word P kind (codes "w") _ _ (λ e. tt) tt)))))))))
 
 behind_spelled : (s : Script) (text behind : List ℕ) → behind_word text ≡ behind → Each (IsLineText s text) (line_of_words s (first_word text) (words_of behind))
 behind_spelled s text [] e = no_words s (first_word text) (IsLineText s text)
 behind_spelled s text (b ∷ behind) e =
     let some : HasFirst (behind_word text) = rw e tt in
     let whole : joined 32 (first_word text ∷ words_of (b ∷ behind)) ≡ text =
-        join_next 32 (first_word text) (words_of (b ∷ behind)) (parts_some 32 (b ∷ behind))
-        ∙ ap (λ (xs : List ℕ). first_word text ++ 32 ∷ xs) (join_parts 32 (b ∷ behind) ∙ sym e)
-        ∙ cut text some in
+    join_next 32 (first_word text) (words_of (b ∷ behind)) (parts_some 32 (b ∷ behind))
+    ∙ ap (λ (xs : List ℕ). first_word text ++ 32 ∷ xs) (join_parts 32 (b ∷ behind) ∙ sym e)
+    ∙ cut text some in
     each_as (IsLineText s text) (IsLineOf s (first_word text ∷ words_of (b ∷ behind))) _ (words_spelled s (first_word text) (words_of (b ∷ behind))) (λ l h. (h.0, h.1 ∙ whole))
 
 pub line_spelled : (s : Script) (text : List ℕ) → Each (λ (l : Line). IsLine s l × (line_words l ≡ text)) (line_of s text)

@@ -79,8 +79,8 @@ digit_spelled b =
     each_if (IsDigit b) (is_between 48 57 b) _ _
     (λ e. let p = and_parts (nat_le 48 b) (nat_le b 57) e in low_glyph b (leb-true 48 b p.0) (leb-true b 57 p.1))
     (λ no. each_if (IsDigit b) (is_between 65 70 b) _ _
-      (λ e. let p = and_parts (nat_le 65 b) (nat_le b 70) e in high_glyph b (leb-true 65 b p.0) (leb-true b 70 p.1))
-      (λ none. tt))
+    (λ e. let p = and_parts (nat_le 65 b) (nat_le b 70) e in high_glyph b (leb-true 65 b p.0) (leb-true b 70 p.1))
+    (λ none. tt))
 
 -- one digit more
 pub push_back : (base limit n d : ℕ) → 1 ≤ base → base ≤ 16 → d < base → n * base + d ≤ limit → with_digit base limit n (glyph d) ≡ Some (n * base + d)
@@ -100,8 +100,8 @@ at_most_spelled P limit n h = each_if P (nat_le n limit) (Some n) None (λ e. h 
 push_spelled : (base limit n b : ℕ) → 1 ≤ base → Each (IsPushed base limit n b) (with_digit base limit n b)
 push_spelled base limit n b some =
     each_then (IsPushed base limit n b) (IsDigit b) (digit_of b) _ (digit_spelled b) (λ d is.
-      each_then (IsPushed base limit n b) (λ (k : ℕ). (k ≡ d) × (d < base)) (at_most (base - 1) d) _ (at_most_spelled _ (base - 1) d (λ h. (refl, omega (arith, h, some)))) (λ k same.
-        at_most_spelled (IsPushed base limit n b) limit (n * base + k) (λ h. record { within = h; digit = d; small = same.1; glyph = is.1; whole = ap (λ (x : ℕ). n * base + x) same.0 })))
+    each_then (IsPushed base limit n b) (λ (k : ℕ). (k ≡ d) × (d < base)) (at_most (base - 1) d) _ (at_most_spelled _ (base - 1) d (λ h. (refl, omega (arith, h, some)))) (λ k same.
+    at_most_spelled (IsPushed base limit n b) limit (n * base + k) (λ h. record { within = h; digit = d; small = same.1; glyph = is.1; whole = ap (λ (x : ℕ). n * base + x) same.0 })))
 
 -- ---- the digits of numbers to one base, read and written
 
@@ -174,10 +174,10 @@ module _ (base : ℕ) (text : ℕ → List ℕ) (spells : Spells base text) (lim
   all_back (suc k) n h within = ⊎_elim
       (λ small. one_back n small within)
       (λ large.
-        let s = spells.split n large in
-        let back = all_back k s.0 (omega (arith, h, s.3)) (omega (arith, within, s.3)) in
-        let more = more_back s.0 s.1 s.2 s.4 (rw s.5 within) back in
-        rw s.5 at more)
+      let s = spells.split n large in
+      let back = all_back k s.0 (omega (arith, h, s.3)) (omega (arith, within, s.3)) in
+      let more = more_back s.0 s.1 s.2 s.4 (rw s.5 within) back in
+      rw s.5 at more)
       (cases_lt n base)
 
   pub back : (n : ℕ) → n ≤ limit → number_in base limit (text n) ≡ Some n
@@ -190,11 +190,11 @@ module _ (base : ℕ) (text : ℕ → List ℕ) (spells : Spells base text) (lim
   behind_spelled n [] large within = (within, sym (append-nil (text n)))
   behind_spelled n (b ∷ bytes) large within =
       each_then _ (IsPushed base limit n b) (with_digit base limit n b) _ (push_spelled base limit n b spells.some) (λ m p.
-        let grows : n ≤ m = rw p.whole (spells.grows n p.digit) in
-        let small : n * base + p.digit < 2 ^ 64 = rw (sym p.whole) (omega (arith, p.within, fits)) in
-        let one : text m ≡ text n ++ b ∷ [] = rw (p.whole, spells.more n p.digit large p.small small, p.glyph) refl in
-        let rest : text m ++ bytes ≡ text n ++ b ∷ bytes = ap (λ (xs : List ℕ). xs ++ bytes) one ∙ append_assoc (text n) (b ∷ []) bytes in
-        rw (sym rest) (behind_spelled m bytes (omega (arith, grows, large)) p.within))
+      let grows : n ≤ m = rw p.whole (spells.grows n p.digit) in
+      let small : n * base + p.digit < 2 ^ 64 = rw (sym p.whole) (omega (arith, p.within, fits)) in
+      let one : text m ≡ text n ++ b ∷ [] = rw (p.whole, spells.more n p.digit large p.small small, p.glyph) refl in
+      let rest : text m ++ bytes ≡ text n ++ b ∷ bytes = ap (λ (xs : List ℕ). xs ++ bytes) one ∙ append_assoc (text n) (b ∷ []) bytes in
+      rw (sym rest) (behind_spelled m bytes (omega (arith, grows, large)) p.within))
 
   some_digit : (d b : ℕ) → glyph d ≡ b → (b == 48) ≡ false → 0 < d
   some_digit zero b e h =
@@ -309,7 +309,7 @@ pub character_spelled : (word : List ℕ) → Each (λ (code : ℕ). IsScalar co
 character_spelled word =
     let Q : ℕ → Type 0 = λ code. (code ≤ 0x10_FFFF) × (hexadecimal code ≡ word) in
     each_then _ Q (number_in 16 0x10_FFFF word) _ (spelled 16 hexadecimal hexadecimal_spells 0x10_FFFF (omega arith) word) (λ code h.
-      each_if _ (is_between 0xD800 0xDFFF code) _ _ (λ e. tt) (λ e. ((h.0, e), h.1)))
+    each_if _ (is_between 0xD800 0xDFFF code) _ _ (λ e. tt) (λ e. ((h.0, e), h.1)))
 
 -- ---- what does not stand in a number
 

@@ -114,7 +114,7 @@ lines_fail_from s k earlier [] = omega arith
 lines_fail_from s k earlier (text ∷ parts) =
     if_fails (From k) (is_empty parts) _ _ (omega arith)
     (if_fails (From k) (same_bytes text (codes "end")) _ _ (weaker (From (k + 1)) (From k) (ended earlier (k + 1) parts) (λ n h. omega (arith, h)) (ended_from earlier (k + 1) parts))
-      (then_fails (From k) (with_line s k text earlier) _ (with_from s k text earlier) (λ ls. weaker (From (k + 1)) (From k) (lines_from s (k + 1) ls parts) (λ n h. omega (arith, h)) (lines_fail_from s (k + 1) ls parts))))
+    (then_fails (From k) (with_line s k text earlier) _ (with_from s k text earlier) (λ ls. weaker (From (k + 1)) (From k) (lines_from s (k + 1) ls parts) (λ n h. omega (arith, h)) (lines_fail_from s (k + 1) ls parts))))
 
 -- ---- what another text of a report begins with is read
 
@@ -157,8 +157,8 @@ parts_fail_from [] = omega arith
 parts_fail_from (first ∷ []) = omega arith
 parts_fail_from (first ∷ second ∷ parts) =
     then_fails (From 1) (script_part first) _ (placed_fails (From 1) 1 (script_line first) (omega arith)) (λ s.
-      then_fails (From 1) (mode_part second parts) _ (placed_fails (From 1) 2 (second_line second parts) (omega arith)) (λ m.
-        then_fails (From 1) (lines_from s 3 [] parts) _ (weaker (From 3) (From 1) (lines_from s 3 [] parts) (λ n h. omega (arith, h)) (lines_fail_from s 3 [] parts)) (λ ls. tt)))
+    then_fails (From 1) (mode_part second parts) _ (placed_fails (From 1) 2 (second_line second parts) (omega arith)) (λ m.
+    then_fails (From 1) (lines_from s 3 [] parts) _ (weaker (From 3) (From 1) (lines_from s 3 [] parts) (λ n h. omega (arith, h)) (lines_fail_from s 3 [] parts)) (λ ls. tt)))
 
 -- the mode stands in a line that has something behind it
 mode_some : (second : List ℕ) (parts : List (List ℕ)) → HasFirst parts → second_line second parts ≡ mode_line second
@@ -176,7 +176,7 @@ parts_further (first ∷ []) (p ∷ ps) (q ∷ qs) some other h = by (script_par
     by (Err n) h = absurd h
     by (Ok s) h =
         then_fails (From 2) (mode_part q qs) _ (placed_fails (From 2) 2 (second_line q qs) (omega arith)) (λ m.
-          then_fails (From 2) (lines_from s 3 [] qs) _ (weaker (From 3) (From 2) (lines_from s 3 [] qs) (λ n g. omega (arith, g)) (lines_fail_from s 3 [] qs)) (λ ls. tt))
+        then_fails (From 2) (lines_from s 3 [] qs) _ (weaker (From 3) (From 2) (lines_from s 3 [] qs) (λ n g. omega (arith, g)) (lines_fail_from s 3 [] qs)) (λ ls. tt))
 parts_further (first ∷ second ∷ texts) ps qs some other h =
     let left = mode_some second (texts ++ ps) (some_behind texts ps some) in
     let right = mode_some second (texts ++ qs) (some_behind texts qs other) in
@@ -247,7 +247,7 @@ more_so : (s : Script) (k n : ℕ) (earlier : List Line) (l : Line) (text : List
 more_so s k n earlier l text parts words so =
     let one : line_text l ≡ text ++ codes "\n" = ap (λ (xs : List ℕ). xs ++ codes "\n") words in
     let moved : lines_text earlier ++ with_feeds (text ∷ so.texts) ≡ lines_text (l ∷ earlier) ++ with_feeds so.texts =
-        sym (append_assoc (lines_text earlier) (text ++ codes "\n") (with_feeds so.texts)) ∙ ap (λ (xs : List ℕ). (lines_text earlier ++ xs) ++ with_feeds so.texts) (sym one) in
+    sym (append_assoc (lines_text earlier) (text ++ codes "\n") (with_feeds so.texts)) ∙ ap (λ (xs : List ℕ). (lines_text earlier ++ xs) ++ with_feeds so.texts) (sym one) in
     record {
       texts = text ∷ so.texts;
       rest = so.rest;

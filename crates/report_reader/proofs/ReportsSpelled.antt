@@ -59,16 +59,16 @@ lines_spelled s number earlier (text ∷ next ∷ parts) h =
     read_if P (same_bytes text (codes "end")) _ _
     (λ e. ended_spelled s (number + 1) earlier text (next ∷ parts) h (same_text text (codes "end") e))
     (λ e. read_then P (λ (ls : List Line). AreLines s ls × (lines_text ls ≡ lines_text earlier ++ (text ++ codes "\n"))) (with_line s number text earlier) _ with_one (λ ls k.
-      let whole : lines_text ls ++ joined 10 (next ∷ parts) ≡ lines_text earlier ++ joined 10 (text ∷ next ∷ parts) =
-          ap (λ (xs : List ℕ). xs ++ joined 10 (next ∷ parts)) k.1
-          ∙ append_assoc (lines_text earlier) (text ++ codes "\n") (joined 10 (next ∷ parts))
-          ∙ ap (λ (xs : List ℕ). lines_text earlier ++ xs) (append_assoc text (codes "\n") (joined 10 (next ∷ parts))) in
-      rw whole at (lines_spelled s (number + 1) ls (next ∷ parts) k.0)))
+    let whole : lines_text ls ++ joined 10 (next ∷ parts) ≡ lines_text earlier ++ joined 10 (text ∷ next ∷ parts) =
+    ap (λ (xs : List ℕ). xs ++ joined 10 (next ∷ parts)) k.1
+    ∙ append_assoc (lines_text earlier) (text ++ codes "\n") (joined 10 (next ∷ parts))
+    ∙ ap (λ (xs : List ℕ). lines_text earlier ++ xs) (append_assoc text (codes "\n") (joined 10 (next ∷ parts))) in
+    rw whole at (lines_spelled s (number + 1) ls (next ∷ parts) k.0)))
   where
     with_one : OfRead (λ (ls : List Line). AreLines s ls × (lines_text ls ≡ lines_text earlier ++ (text ++ codes "\n"))) (with_line s number text earlier)
     with_one =
         read_then (λ (ls : List Line). AreLines s ls × (lines_text ls ≡ lines_text earlier ++ (text ++ codes "\n"))) (λ (l : Line). IsLine s l × (line_words l ≡ text)) (placed number (line_of s text)) _ (read_placed _ number (line_of s text) (line_spelled s text)) (λ l k.
-          ((k.0, h), ap (λ (xs : List ℕ). lines_text earlier ++ (xs ++ codes "\n")) k.1))
+        ((k.0, h), ap (λ (xs : List ℕ). lines_text earlier ++ (xs ++ codes "\n")) k.1))
 
 -- ---- the first two lines
 
@@ -93,8 +93,8 @@ pub script_line_spelled : (line : List ℕ) → Each (λ (s : Script). (script_o
 script_line_spelled line =
     let P : Script → Type 0 = λ s. (script_of_bytes (script_text s) ≡ Ok s) × (codes "script " ++ script_text s ≡ line) in
     each_word P (first_word line) (codes "script") _ _ (λ e. each_as P (IsScriptOf (behind_word line)) (script_of (behind_word line)) (script_spelled (behind_word line)) (λ s h.
-      let some : HasFirst (behind_word line) = rw h.1 at (some_text s) in
-      (h.0, ap (λ (xs : List ℕ). codes "script " ++ xs) h.1 ∙ ap (λ (xs : List ℕ). xs ++ 32 ∷ behind_word line) (sym e) ∙ cut line some))) tt
+    let some : HasFirst (behind_word line) = rw h.1 at (some_text s) in
+    (h.0, ap (λ (xs : List ℕ). codes "script " ++ xs) h.1 ∙ ap (λ (xs : List ℕ). xs ++ 32 ∷ behind_word line) (sym e) ∙ cut line some))) tt
 
 pub mode_spelled : (line : List ℕ) → Each (λ (m : Mode). mode_text m ≡ codes "\n" ++ line ++ codes "\n") (mode_line line)
 mode_spelled line =
@@ -116,15 +116,16 @@ parts_spelled (first ∷ second ∷ part ∷ parts) =
     let behind = joined 10 (part ∷ parts) in
     let P : Report → Type 0 = IsReportOf (first ++ 10 ∷ (second ++ 10 ∷ behind)) in
     read_then P _ (script_part first) _ (read_placed _ 1 (script_line first) (script_line_spelled first)) (λ s hs.
-      read_then P _ (mode_part second (part ∷ parts)) _ (read_placed _ 2 (mode_line second) (mode_spelled second)) (λ m hm.
-        read_then P (AreLinesOf s behind) (lines_from s 3 [] (part ∷ parts)) _ (lines_spelled s 3 [] (part ∷ parts) tt) (λ ls hl.
-          (record { script = hs.0; lines = hl.0 },
-            append_assoc (codes "script " ++ script_text s ++ mode_text m) (lines_text ls) (codes "end\n")
-            ∙ ap (λ (xs : List ℕ). (codes "script " ++ script_text s ++ mode_text m) ++ xs) hl.1
-            ∙ ap (λ (xs : List ℕ). (xs ++ mode_text m) ++ behind) hs.1
-            ∙ ap (λ (xs : List ℕ). (first ++ xs) ++ behind) hm
-            ∙ append_assoc first (10 ∷ (second ++ codes "\n")) behind
-            ∙ ap (λ (xs : List ℕ). first ++ 10 ∷ xs) (append_assoc second (codes "\n") behind)))))
+    read_then P _ (mode_part second (part ∷ parts)) _ (read_placed _ 2 (mode_line second) (mode_spelled second)) (λ m hm.
+    read_then P (AreLinesOf s behind) (lines_from s 3 [] (part ∷ parts)) _ (lines_spelled s 3 [] (part ∷ parts) tt) (λ ls hl. (
+      record { script = hs.0; lines = hl.0 },
+      append_assoc (codes "script " ++ script_text s ++ mode_text m) (lines_text ls) (codes "end\n")
+          ∙ ap (λ (xs : List ℕ). (codes "script " ++ script_text s ++ mode_text m) ++ xs) hl.1
+          ∙ ap (λ (xs : List ℕ). (xs ++ mode_text m) ++ behind) hs.1
+          ∙ ap (λ (xs : List ℕ). (first ++ xs) ++ behind) hm
+          ∙ append_assoc first (10 ∷ (second ++ codes "\n")) behind
+          ∙ ap (λ (xs : List ℕ). first ++ 10 ∷ xs) (append_assoc second (codes "\n") behind),
+    ))))
 
 was_read : {A : Type 0} (P : A → Type 0) (r : Result A ℕ) (x : A) → OfRead P r → r ≡ Ok x → P x
 was_read P (Ok y) x h e =
