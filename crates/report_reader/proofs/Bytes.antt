@@ -179,9 +179,6 @@ body_some lc [] same some = absurd (omega (arith, same, some))
 body_some lc (b ∷ body) same some = ap (λ (n : ℕ). n ∷ b ∷ body) same
 
 module _ (class ins p1 p2 : ℕ) (are_bytes : AreBytes (class ∷ ins ∷ p1 ∷ p2 ∷ [])) where
-  header : CommandValue
-  header = command_of class ins p1 p2 [] None
-
   fits : (body : List ℕ) (le : Option ℕ) → AreBytes body → length body ≤ 255 → HasLe le → IsCommand (command_of class ins p1 p2 body le)
   fits body le h few k = record { class = are_bytes.0; ins = are_bytes.1.0; p1 = are_bytes.1.1.0; p2 = are_bytes.1.1.1.0; body = h; len = few; le = k }
 

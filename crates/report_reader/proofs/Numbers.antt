@@ -7,6 +7,7 @@ use Rattle.std.proofs.lemmas.Fmt.{decimal_by_steps, decimal_step, decimal_digit,
 use Rattle.apdu.specs.Words.{is_between, is_empty, same_bytes}
 use Rattle.report_reader.specs.Reads.{◌>>=◌}
 use Rattle.report_reader.specs.Words.{digit_of, at_most, with_digit, number_behind, has_leading_zero, number_in, number_to, character}
+use Rattle.report_reader.specs.Ranges.{IsCharacter}
 use Rattle.report_reader.proofs.Parts.{Lacks, lacks_both, above}
 use Rattle.report_reader.proofs.Readings.{Each, each_then, each_if, read_as}
 
@@ -298,14 +299,10 @@ hexadecimal_spells = record {
   split = λ n large. (n / 16, n % 16, omega (arith, large), omega (arith, large), omega arith, omega arith);
 }
 
--- a code point that is no surrogate
-abbrev IsScalar : ℕ → Type 0
-IsScalar code = (code ≤ 0x10_FFFF) × (is_between 0xD800 0xDFFF code ≡ false)
-
-pub character_back : (code : ℕ) → IsScalar code → character (hexadecimal code) ≡ Some code
+pub character_back : (code : ℕ) → IsCharacter code → character (hexadecimal code) ≡ Some code
 character_back code h = rw (back 16 hexadecimal hexadecimal_spells 0x10_FFFF (omega arith) code h.0, h.1) refl
 
-pub character_spelled : (word : List ℕ) → Each (λ (code : ℕ). IsScalar code × (hexadecimal code ≡ word)) (character word)
+pub character_spelled : (word : List ℕ) → Each (λ (code : ℕ). IsCharacter code × (hexadecimal code ≡ word)) (character word)
 character_spelled word =
     let Q : ℕ → Type 0 = λ code. (code ≤ 0x10_FFFF) × (hexadecimal code ≡ word) in
     each_then _ Q (number_in 16 0x10_FFFF word) _ (spelled 16 hexadecimal hexadecimal_spells 0x10_FFFF (omega arith) word) (λ code h.

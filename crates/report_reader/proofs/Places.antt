@@ -46,6 +46,10 @@ parts_are (text ∷ lines) behind h =
     ∙ next_part 10 text (with_feeds lines ++ behind) (lacks_feed text h.0)
     ∙ ap (λ (ps : List (List ℕ)). text ∷ ps) (parts_are lines behind h.1)
 
+some_behind : (xs ys : List (List ℕ)) → HasFirst ys → HasFirst (xs ++ ys)
+some_behind [] ys h = h
+some_behind (x ∷ xs) ys h = tt
+
 joined_are : (lines rest : List (List ℕ)) → HasFirst rest → with_feeds lines ++ joined 10 rest ≡ joined 10 (lines ++ rest)
 joined_are [] rest h = refl
 joined_are (text ∷ lines) rest h =
@@ -53,14 +57,6 @@ joined_are (text ∷ lines) rest h =
     ∙ append_assoc text (codes "\n") (with_feeds lines ++ joined 10 rest)
     ∙ ap (λ (xs : List ℕ). text ++ 10 ∷ xs) (joined_are lines rest h)
     ∙ sym (join_next 10 text (lines ++ rest) (some_behind lines rest h))
-  where
-    some_behind : (xs ys : List (List ℕ)) → HasFirst ys → HasFirst (xs ++ ys)
-    some_behind [] ys h = h
-    some_behind (x ∷ xs) ys h = tt
-
-some_behind : (xs ys : List (List ℕ)) → HasFirst ys → HasFirst (xs ++ ys)
-some_behind [] ys h = h
-some_behind (x ∷ xs) ys h = tt
 
 front_lines : (lines rest parts : List (List ℕ)) → parts ≡ lines ++ rest → AllByRecursion (Lacks 10) parts → AllByRecursion IsOneLine lines
 front_lines lines rest parts e h = by lines (rw e at h)
