@@ -1,4 +1,4 @@
-// Laws of reading, each the contract of a function that does nothing, and of the reports that are written.
+// Laws of reading, each the contract of a function that does nothing; and a report that is read back.
 ghost use Rattle.std.specs.Prelude.{◌≡◌, true, Ok, IfOk};
 ghost use Rattle.script_reader.specs.Rules.{keeps_rules};
 ghost use Rattle.report.specs.Texts.{report_text};
@@ -21,12 +21,14 @@ pub fn reports_have_one_spelling()
     ensures { HaveOneSpelling }
 {}
 
-/// Of bytes that are no report's text, the line that is named is the first one up to which no report's text begins as they do.
+/// Where the bytes are no report's text, the line that is named is the first one up to which no report's text
+/// begins as they do.
 pub fn first_line_without_place_is_named()
     ensures { NamesFirst }
 {}
 
-/// The bytes of a report, from which it is read back where its script keeps the rules and its lines are those of a run of it.
+/// The bytes of a report, from which it is read back where its script keeps the rules and its lines are those of a
+/// run of it.
 pub fn write_read_back(alloc: Global, report: &Report) -> Result<Bytes, Memory>
     ensures text { IfOk result (λ bytes. bytes ≡ report_text report.now) }
     ensures read_back { IfOk result (λ bytes. keeps_rules report.now.script ≡ true
