@@ -1,6 +1,6 @@
 -- Answers are read from their words.
-use Rattle.std.proofs.Common.{◌≡◌, ℕ, ◌+◌, ◌*◌, ◌/◌, ◌%◌, ◌≤◌, ◌<◌, Bool, true, false, List, [], ◌∷◌, ◌++◌, length, drop, map, Option, Some, None, IfSome, decimal, zero, suc, refl, sym, ap, ◌∙◌, true≢false, append_assoc, append-nil, arith, codes}
-use Rattle.std.specs.Prelude.{⊤, nat_le}
+use Rattle.std.proofs.Common.{◌≡◌, ℕ, Bool, true, false, List, [], ◌∷◌, ◌++◌, length, drop, map, Option, Some, None, IfSome, decimal, refl, sym, ap, ◌∙◌, true≢false, append_assoc, append-nil, arith, codes}
+use Rattle.std.specs.Prelude.{nat_le}
 use Rattle.std.specs.Fmt.{radix_digits}
 use Rattle.std.specs.List.{AllByRecursion}
 use Rattle.std.proofs.lemmas.Bool.{le-leb}
@@ -17,10 +17,10 @@ use Rattle.report_reader.specs.Words.{words_of, number}
 use Rattle.report_reader.specs.Answers.{answer_of}
 use Rattle.report_reader.specs.Ranges.{IsByte, AreBytes, IsWord, IsNumber, IsHandle, IsCharacter, IsResponse}
 use Rattle.report_reader.specs.Forms.{IsSeen, AreNoticed, IsAnswer}
-use Rattle.report_reader.proofs.Parts.{Lacks, last_part, next_part}
+use Rattle.report_reader.proofs.Parts.{last_part, next_part}
 use Rattle.report_reader.proofs.Numbers.{number_back, character_back, hexadecimal_plain}
 use Rattle.report_reader.proofs.Bytes.{hex_byte_back, hex_pair_back, hex_plain, are_two_bytes, response_back, are_response_bytes}
-use Rattle.report_reader.proofs.Fields.{byte_back, any_back, last_number, next_number, optional_word, optional_is, optional_plain, optional_back, listed, listed_parts, all_back, rows_word, rows_is, rows_plain, rows_back}
+use Rattle.report_reader.proofs.Fields.{byte_back, any_back, last_number, next_number, optional_word, optional_is, optional_plain, optional_back, listed_parts, all_back, rows_word, rows_is, rows_plain, rows_back}
 
 -- the answer of words, of which the first is its name
 abbrev pub answer_in : Bool → List (List ℕ) → Option Answer

@@ -1,6 +1,6 @@
 -- The words that are read as an answer are those of its text.
-use Rattle.std.proofs.Common.{◌≡◌, ℕ, ◌+◌, ◌≤◌, Bool, true, false, List, [], ◌∷◌, ◌++◌, length, map, Option, Some, None, IfSome, decimal, zero, suc, refl, sym, ap, ◌∙◌, append_assoc, append-nil, arith, codes}
-use Rattle.std.specs.Prelude.{⊤, nat_le, option_map}
+use Rattle.std.proofs.Common.{◌≡◌, ℕ, ◌≤◌, Bool, true, false, List, [], ◌∷◌, ◌++◌, length, map, Option, Some, None, IfSome, decimal, refl, sym, ap, ◌∙◌, append_assoc, append-nil, arith, codes}
+use Rattle.std.specs.Prelude.{nat_le}
 use Rattle.std.specs.Fmt.{radix_digits}
 use Rattle.std.specs.List.{AllByRecursion}
 use Rattle.std.proofs.lemmas.Bool.{leb-true}
@@ -10,14 +10,14 @@ use Rattle.arrayvec.specs.ArrayVec.{ArrayVec}
 use Rattle.apdu.specs.Words.{two_bytes}
 use Rattle.apdu.specs.Values.{ResponseValue}
 use Rattle.apdu.specs.Apdu.{response_bytes}
-use Rattle.report.specs.Texts.{answer_text, optional_text, rows_text, numbers_text}
+use Rattle.report.specs.Texts.{answer_text}
 use Rattle.report.specs.declared.answer.Answer.{Answer}
 use Rattle.report.specs.declared.answer.Answer.TheVariants as answer
-use Rattle.report_reader.specs.Reads.{◌>>=◌, rule, all_of}
+use Rattle.report_reader.specs.Reads.{rule, all_of}
 use Rattle.report_reader.specs.Words.{number_to, byte, number, character, optional, rows, hex_byte, hex_pair, response}
 use Rattle.report_reader.specs.Answers as spec
 use Rattle.report_reader.specs.Ranges.{IsByte, AreBytes, IsWord, IsNumber, IsHandle, IsCharacter, IsResponse}
-use Rattle.report_reader.specs.Forms.{IsSeen, AreNoticed, IsAnswer}
+use Rattle.report_reader.specs.Forms.{IsAnswer}
 use Rattle.report_reader.proofs.Parts.{joined}
 use Rattle.report_reader.proofs.Readings.{Each, each_then, each_made, each_if, each_word}
 use Rattle.report_reader.proofs.Numbers.{number_spelled, character_spelled}

@@ -1,22 +1,19 @@
 -- Hexadecimal, commands and responses, both ways.
-use Rattle.std.proofs.Common.{◌≡◌, ◌≢◌, ℕ, ◌+◌, ◌-◌, ◌*◌, ◌/◌, ◌%◌, ◌<◌, ◌≤◌, ◌==◌, ◌||◌, Bool, true, false, List, [], ◌∷◌, ◌++◌, length, take, drop, Option, Some, None, Result, Ok, Err, if◌then◌else◌, cond, zero, suc, sym, subst, refl, ap, ◌∙◌, arith, append-nil, take-append-drop, length-append, length-take, length-drop}
-use Rattle.std.specs.Prelude.{⊤, slice_index, nat_lt, IfSome}
-use Rattle.std.specs.List.{AllByRecursion}
+use Rattle.std.proofs.Common.{◌≡◌, ◌≢◌, ℕ, ◌+◌, ◌-◌, ◌*◌, ◌/◌, ◌%◌, ◌<◌, ◌≤◌, ◌==◌, ◌||◌, Bool, true, false, List, [], ◌∷◌, ◌++◌, length, take, drop, Option, Some, None, Result, Ok, Err, cond, zero, suc, sym, subst, refl, ap, ◌∙◌, arith, take-append-drop, length-append, length-take, length-drop}
+use Rattle.std.specs.Prelude.{slice_index, nat_lt}
 use Rattle.std.proofs.Math.Seq.{take-append_seam, drop-append_seam}
-use Rattle.std.proofs.lemmas.Bool.{or_parts, or_from, eq-eqb, ne_eqb, eqb-false, eqb-true, ltb-false, ltb-true, lt-ltb}
+use Rattle.std.proofs.lemmas.Bool.{or_parts, ne_eqb, eqb-false, eqb-true, ltb-false, ltb-true}
 use Rattle.hex.specs.Hex.{IsBytes, decode_of, encode_upper, encode_with, upper_digits, hex_digit_value}
 use Rattle.hex.specs.declared.error.FromHexError.{FromHexError}
 use Rattle.hex.proofs.HexLemmas.{decode_of-encode_upper, decode_of-ok, IsDigits-upper_digits}
 use Rattle.apdu.specs.Words.{two_bytes, pair_value}
 use Rattle.apdu.specs.Values.{CommandValue, ResponseValue, HasLe}
-use Rattle.apdu.specs.Apdu.{le_bytes, body_bytes, command_bytes, response_bytes, with_class, with_le, le_of_byte, read_le, with_last_le, read_body, read_behind, read_command, word_of, read_response}
-use Rattle.apdu.specs.Apdu as apdu
+use Rattle.apdu.specs.Apdu.{le_bytes, body_bytes, command_bytes, response_bytes, le_of_byte, read_le, with_last_le, read_body, read_behind, read_command, word_of, read_response}
 use Rattle.apdu.specs.declared.command.ApduError.{ApduError}
 use Rattle.apdu.specs.declared.command.ApduError.TheVariants.{BadLength, TooShort}
-use Rattle.report_reader.specs.Reads.{◌>>=◌}
-use Rattle.report_reader.specs.Words.{spelled, decoded, hex, only_byte, hex_byte, only_pair, hex_pair, accepted, command, response}
+use Rattle.report_reader.specs.Words.{decoded, hex, only_byte, hex_byte, only_pair, hex_pair, accepted, command, response}
 use Rattle.report_reader.specs.Ranges.{IsByte, AreBytes, IsWord, IsCommand, IsResponse}
-use Rattle.report_reader.proofs.Parts.{same_text, same_self, Lacks, above}
+use Rattle.report_reader.proofs.Parts.{same_text, same_self, Lacks}
 use Rattle.report_reader.proofs.Readings.{Each, each_then, each_if}
 
 -- ---- bytes

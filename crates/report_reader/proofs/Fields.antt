@@ -1,12 +1,12 @@
 -- The words of numbers, rows and families, both ways.
-use Rattle.std.proofs.Common.{◌≡◌, ℕ, ◌+◌, ◌<◌, ◌≤◌, ◌==◌, ◌&&◌, not, Bool, true, false, List, [], ◌∷◌, ◌++◌, map, length, Option, Some, None, IfSome, if◌then◌else◌, decimal, zero, suc, sym, refl, ap, ◌∙◌, arith, append_assoc, append-nil, codes}
-use Rattle.std.specs.Prelude.{⊤, flat_map, option_map}
+use Rattle.std.proofs.Common.{◌≡◌, ℕ, ◌<◌, ◌==◌, not, Bool, true, false, List, [], ◌∷◌, ◌++◌, map, Option, Some, None, IfSome, decimal, zero, suc, sym, refl, ap, ◌∙◌, arith, append-nil, codes}
+use Rattle.std.specs.Prelude.{flat_map, option_map}
 use Rattle.std.specs.List.{AllByRecursion, list_all}
 use Rattle.std.proofs.lemmas.Bool.{and_parts}
 use Rattle.apdu.specs.Words.{same_bytes}
 use Rattle.script_writer.specs.Writing.{family_name}
-use Rattle.report.specs.Texts.{optional_text, rows_text, numbers_text, acted_text}
-use Rattle.report_reader.specs.Reads.{◌>>=◌, all_of}
+use Rattle.report.specs.Texts.{optional_text, rows_text, acted_text}
+use Rattle.report_reader.specs.Reads.{all_of}
 use Rattle.report_reader.specs.Words.{parts_of, words_of, byte, number, optional, rows, family}
 use Rattle.report_reader.specs.Lines.{place, acted_of}
 use Rattle.report_reader.specs.Ranges.{IsByte, AreBytes, IsPlace, IsNumber, IsFamily}

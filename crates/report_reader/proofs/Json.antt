@@ -1,20 +1,18 @@
 -- No line feed stands in compact JSON, and what is shown is its own text.
-use Rattle.std.proofs.Common.{◌≡◌, ◌≢◌, ◌&&◌, ◌||◌, ℕ, ◌+◌, ◌/◌, ◌%◌, ◌<◌, ◌≤◌, ◌==◌, Bool, true, false, List, [], ◌∷◌, ◌++◌, Option, Some, None, if◌then◌else◌, cond, zero, suc, pos, negsuc, sym, refl, ap, ◌∙◌, arith}
-use Rattle.std.specs.Prelude.{⊤, nat_lt, flat_map}
+use Rattle.std.proofs.Common.{◌≡◌, ◌&&◌, ◌||◌, ℕ, ◌+◌, ◌/◌, ◌%◌, ◌==◌, Bool, true, false, List, [], ◌∷◌, ◌++◌, Option, Some, None, cond, suc, pos, negsuc, refl, arith}
+use Rattle.std.specs.Prelude.{⊤, nat_lt}
 use Rattle.std.specs.Char.{digit_char}
 use Rattle.std.specs.Str.{is_utf8, chars}
-use Rattle.std.proofs.lemmas.Bool.{eqb-true, eqb-false, eq-eqb, ne_eqb, ltb-true, ltb-false, or_parts}
-use Rattle.json.specs.Print.{escape_letter, escape_byte, escape, quoted, token_text}
-use Rattle.json.specs.Token.{Token}
+use Rattle.std.proofs.lemmas.Bool.{ne_eqb, ltb-false}
+use Rattle.json.specs.Print.{escape_letter, escape_byte, escape, quoted}
 use Rattle.json.specs.Json.{value}
 use Rattle.json.specs.Lex.{punctuate, lex}
 use Rattle.serde_json.specs.Data.{Num, unsigned, negative, float, Data, null, boolean, number, string, array, object, Items, no_items, item, Members, no_members, member}
 use Rattle.serde_json.specs.Read.{read}
 use Rattle.serde_json.specs.Written.{number_text, comma_if, compact_text, items_text, members_text}
 use Rattle.apdu.specs.Words.{same_bytes}
-use Rattle.report_reader.specs.Reads.{◌>>=◌}
 use Rattle.report_reader.specs.Content.{is_whole, text_of, content}
-use Rattle.report_reader.proofs.Parts.{Lacks, lacks_both, above, same_text, same_self}
+use Rattle.report_reader.proofs.Parts.{Lacks, lacks_both, above, same_text}
 use Rattle.report_reader.proofs.Readings.{Each, each_then, each_if}
 use Rattle.report_reader.proofs.Numbers.{decimal_plain}
 

@@ -1,5 +1,5 @@
 -- Lines are read from their words.
-use Rattle.std.proofs.Common.{◌≡◌, ℕ, ◌+◌, ◌≤◌, ◌<◌, Bool, true, false, List, [], ◌∷◌, ◌++◌, drop, Option, Some, None, decimal, zero, suc, refl, ap, ◌∙◌, append_assoc, arith, codes}
+use Rattle.std.proofs.Common.{◌≡◌, ℕ, Bool, true, false, List, [], ◌∷◌, ◌++◌, drop, Some, decimal, zero, suc, refl, ap, ◌∙◌, append_assoc, arith, codes}
 use Rattle.hex.specs.Hex.{encode_upper}
 use Rattle.apdu.specs.Values.{CommandValue, ResponseValue}
 use Rattle.apdu.specs.Apdu.{command_bytes, response_bytes}
@@ -12,7 +12,7 @@ use Rattle.report.specs.declared.answer.Answer.{Answer}
 use Rattle.report.specs.declared.answer.Answer.TheVariants as answer
 use Rattle.report.specs.declared.line.Line.{Line}
 use Rattle.report.specs.declared.line.Line.TheVariants as line
-use Rattle.report_reader.specs.Words.{words_of, behind_word}
+use Rattle.report_reader.specs.Words.{words_of}
 use Rattle.report_reader.specs.Lines.{line_of, published, published_of, answered, ends}
 use Rattle.report_reader.specs.Ranges.{IsByte, IsPlace, IsNumber, IsFamily, IsCommand, IsResponse}
 use Rattle.report_reader.specs.Forms.{IsAnswer, IsEvent, IsPublished, IsLine}

@@ -1,19 +1,16 @@
 -- The text that is read as a line is the text of that line.
-use Rattle.std.proofs.Common.{◌≡◌, ℕ, ◌+◌, ◌≤◌, Bool, true, false, List, [], ◌∷◌, ◌++◌, Option, Some, None, decimal, zero, suc, if◌then◌else◌, subst, refl, sym, ap, ◌∙◌, append_assoc, arith, codes}
-use Rattle.std.specs.Prelude.{⊤, option_map}
+use Rattle.std.proofs.Common.{◌≡◌, ℕ, Bool, List, [], ◌∷◌, ◌++◌, Option, Some, None, decimal, zero, suc, subst, refl, sym, ap, ◌∙◌, append_assoc, arith, codes}
+use Rattle.std.specs.Prelude.{option_map}
 use Rattle.hex.specs.Hex.{encode_upper}
-use Rattle.apdu.specs.Words.{same_bytes}
 use Rattle.apdu.specs.Values.{CommandValue, ResponseValue}
 use Rattle.apdu.specs.Apdu.{command_bytes, response_bytes}
 use Rattle.card_model.specs.declared.world.WorldEvent.{WorldEvent}
 use Rattle.card_model.specs.declared.world.WorldEvent.TheVariants as world_event
 use Rattle.script_reader.specs.declared.types.Script.{Script}
 use Rattle.script_writer.specs.Writing.{family_name}
-use Rattle.report.specs.Texts.{answer_text, event_text, acted_text, line_words}
-use Rattle.report.specs.declared.answer.Answer.{Answer}
+use Rattle.report.specs.Texts.{event_text, acted_text, line_words}
 use Rattle.report.specs.declared.line.Line.{Line}
 use Rattle.report.specs.declared.line.Line.TheVariants as line
-use Rattle.report_reader.specs.Reads.{◌>>=◌}
 use Rattle.report_reader.specs.Words.{words_of, first_word, behind_word, byte, number, command, response, family}
 use Rattle.report_reader.specs.Content.{content}
 use Rattle.report_reader.specs.Answers.{answer_of}

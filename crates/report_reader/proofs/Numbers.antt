@@ -1,15 +1,15 @@
 -- Numbers and their digits, both ways.
-use Rattle.std.proofs.Common.{◌≡◌, ℕ, ◌+◌, ◌-◌, ◌*◌, ◌/◌, ◌%◌, ◌^◌, ◌<◌, ◌≤◌, ◌==◌, Bool, true, false, List, [], ◌∷◌, ◌++◌, length, get_or, Option, Some, None, if◌then◌else◌, cond, ⊎_elim, decimal, zero, suc, sym, subst, refl, ap, ◌∙◌, arith, append_assoc, append-nil}
-use Rattle.std.specs.Prelude.{⊤, nat_le, nat_lt}
+use Rattle.std.proofs.Common.{◌≡◌, ℕ, ◌+◌, ◌-◌, ◌*◌, ◌/◌, ◌%◌, ◌^◌, ◌<◌, ◌≤◌, ◌==◌, Bool, true, false, List, [], ◌∷◌, ◌++◌, Option, Some, None, cond, ⊎_elim, decimal, zero, suc, sym, refl, ap, ◌∙◌, arith, append_assoc, append-nil}
+use Rattle.std.specs.Prelude.{nat_le, nat_lt}
 use Rattle.std.specs.Fmt.{digits, digits_onto, digit_glyph, radix_digits}
-use Rattle.std.proofs.lemmas.Bool.{and_parts, le-leb, leb-true, lt-ltb, ltb-true, ltb-false, ne_eqb, eq-eqb, eqb-true, eqb-false, cases_lt}
-use Rattle.std.proofs.lemmas.Fmt.{decimal_by_steps, decimal_step, decimal_digit, first_decimal, decimal_nonempty, hex_one_digit}
-use Rattle.apdu.specs.Words.{is_between, is_empty, same_bytes}
+use Rattle.std.proofs.lemmas.Bool.{and_parts, le-leb, leb-true, lt-ltb, ltb-true, ltb-false, ne_eqb, eq-eqb, eqb-true, cases_lt}
+use Rattle.std.proofs.lemmas.Fmt.{decimal_step, decimal_digit, hex_one_digit}
+use Rattle.apdu.specs.Words.{is_between, is_empty}
 use Rattle.report_reader.specs.Reads.{◌>>=◌}
 use Rattle.report_reader.specs.Words.{digit_of, at_most, with_digit, number_behind, has_leading_zero, number_in, number_to, character}
 use Rattle.report_reader.specs.Ranges.{IsCharacter}
-use Rattle.report_reader.proofs.Parts.{Lacks, lacks_both, above}
-use Rattle.report_reader.proofs.Readings.{Each, each_then, each_if, read_as}
+use Rattle.report_reader.proofs.Parts.{Lacks, above}
+use Rattle.report_reader.proofs.Readings.{Each, each_then, each_if}
 
 -- ---- readings in order
 

@@ -1,6 +1,5 @@
 -- No line feed stands in the words of a line.
-use Rattle.std.proofs.Common.{◌≡◌, ℕ, ◌+◌, ◌≤◌, ◌<◌, Bool, true, false, List, [], ◌∷◌, ◌++◌, Option, Some, None, decimal, refl, arith, codes}
-use Rattle.std.specs.Prelude.{⊤, flat_map}
+use Rattle.std.proofs.Common.{◌≡◌, ℕ, Bool, true, false, List, [], ◌∷◌, ◌++◌, Option, Some, refl, arith, codes}
 use Rattle.std.specs.Fmt.{radix_digits}
 use Rattle.apdu.specs.Words.{two_bytes}
 use Rattle.apdu.specs.Apdu.{command_bytes, response_bytes}

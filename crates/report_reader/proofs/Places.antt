@@ -1,5 +1,5 @@
 -- The line that is named is the first one that has no place.
-use Rattle.std.proofs.Common.{◌≡◌, ℕ, ◌+◌, ◌-◌, ◌≤◌, ◌<◌, ◌==◌, ◌||◌, Bool, true, false, List, [], ◌∷◌, ◌++◌, length, Option, Some, None, Result, Ok, Err, cond, if◌then◌else◌, zero, suc, sym, refl, ap, ◌∙◌, append_assoc, append-nil, arith, codes}
+use Rattle.std.proofs.Common.{◌≡◌, ℕ, ◌+◌, ◌-◌, ◌≤◌, ◌<◌, ◌==◌, Bool, true, false, List, [], ◌∷◌, ◌++◌, length, Option, Some, None, Result, Ok, Err, if◌then◌else◌, sym, refl, ap, ◌∙◌, append_assoc, append-nil, arith, codes}
 use Rattle.std.specs.Prelude.{⊤, IfOk}
 use Rattle.std.specs.List.{AllByRecursion}
 use Rattle.std.proofs.lemmas.Bool.{or_parts, or_from}
@@ -21,7 +21,7 @@ use Rattle.report_reader.specs.Forms.{IsLine, AreLines, IsReport}
 use Rattle.report_reader.specs.Reports.{script_line, mode_line, with_line, ended, lines_from, second_line, script_part, mode_part, report_of_parts, report_of}
 use Rattle.report_reader.specs.Laws.{IsOneLine, with_feeds, HavePlaces, IsFirst, NamesFirst}
 use Rattle.report_reader.proofs.Parts.{same_text, Lacks, next_part, joined, join_next, join_parts, HasFirst, parts_some, parts_lack, not_empty}
-use Rattle.report_reader.proofs.Readings.{Each, read_as}
+use Rattle.report_reader.proofs.Readings.{read_as}
 use Rattle.report_reader.proofs.LinesSpelled.{line_spelled}
 use Rattle.report_reader.proofs.ReportsBack.{reports_back}
 use Rattle.report_reader.proofs.ReportsSpelled.{script_line_spelled, mode_spelled, one_spelling}

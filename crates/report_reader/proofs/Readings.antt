@@ -1,9 +1,8 @@
 -- What holds of whatever is read, one reading after another.
 use Rattle.std.proofs.Common.{◌≡◌, ℕ, Bool, true, false, List, Option, Some, None, if◌then◌else◌, refl}
 use Rattle.std.specs.Prelude.{option_map, ⊤}
-use Rattle.std.specs.Cmp.Lexicographic.{pointwise_decides}
 use Rattle.apdu.specs.Words.{same_bytes}
-use Rattle.report_reader.specs.Reads.{◌>>=◌, rule}
+use Rattle.report_reader.specs.Reads.{◌>>=◌}
 use Rattle.report_reader.proofs.Parts.{same_text}
 
 -- of whatever is read

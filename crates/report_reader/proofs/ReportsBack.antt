@@ -1,7 +1,6 @@
 -- The text of a report is read as that report.
-use Rattle.std.proofs.Common.{◌≡◌, ℕ, ◌+◌, Bool, true, false, List, [], ◌∷◌, ◌++◌, length, Option, Some, None, Result, Ok, Err, if◌then◌else◌, zero, suc, sym, refl, ap, ◌∙◌, append_assoc, append-nil, arith, codes, true≢false}
-use Rattle.apdu.specs.Words.{◌>>=◌, same_bytes, is_empty}
-use Rattle.serde_json.specs.Written.{compact_text}
+use Rattle.std.proofs.Common.{◌≡◌, ℕ, ◌+◌, Bool, true, false, List, [], ◌∷◌, ◌++◌, length, Some, Result, Ok, Err, sym, refl, ap, ◌∙◌, append_assoc, append-nil, arith, codes}
+use Rattle.apdu.specs.Words.{same_bytes}
 use Rattle.script_reader.specs.declared.types.Script.{Script}
 use Rattle.std.specs.Prelude.{IfOk}
 use Rattle.script_reader.specs.Rules.{keeps_rules}
@@ -14,7 +13,7 @@ use Rattle.report.specs.declared.line.Mode.TheVariants.{Replay, Run}
 use Rattle.report.specs.declared.lines.Report.{Report}
 use Rattle.report_reader.specs.Words.{parts_of}
 use Rattle.report_reader.specs.Lines.{line_of}
-use Rattle.report_reader.specs.Forms.{IsLine, AreLines, IsReport}
+use Rattle.report_reader.specs.Forms.{IsLine, AreLines}
 use Rattle.report_reader.specs.Reports.{mode_line, script_line, lines_from, report_of_parts, report_of}
 use Rattle.report_reader.specs.Laws.{AreReadBack}
 use Rattle.report_reader.proofs.Parts.{same_text, same_self, Lacks, lacks_both, next_part, HasFirst, parts_some, not_empty}

@@ -1,23 +1,22 @@
 -- The bytes that are read as a report are its text.
-use Rattle.std.proofs.Common.{◌≡◌, ℕ, ◌+◌, Bool, true, false, List, [], ◌∷◌, ◌++◌, length, Option, Some, None, Result, Ok, Err, if◌then◌else◌, zero, suc, sym, refl, ap, ◌∙◌, append_assoc, arith, codes}
+use Rattle.std.proofs.Common.{◌≡◌, ℕ, ◌+◌, Bool, true, false, List, [], ◌∷◌, ◌++◌, Option, Some, None, Result, Ok, Err, if◌then◌else◌, sym, refl, ap, ◌∙◌, append_assoc, codes}
 use Rattle.std.specs.Prelude.{⊤}
-use Rattle.apdu.specs.Words.{◌>>=◌, same_bytes, is_empty}
+use Rattle.apdu.specs.Words.{◌>>=◌, same_bytes}
 use Rattle.script_reader.specs.Reading.{Refusal}
 use Rattle.script_reader.specs.declared.types.Script.{Script}
 use Rattle.script_reader.specs.Scripts.{script_of_bytes}
 use Rattle.script_writer.specs.Writing.{script_data, script_text}
-use Rattle.report.specs.Texts.{line_words, line_text, lines_text, mode_text, report_text}
+use Rattle.report.specs.Texts.{line_words, lines_text, mode_text, report_text}
 use Rattle.report.specs.declared.line.Line.{Line}
 use Rattle.report.specs.declared.line.Mode.{Mode}
-use Rattle.report.specs.declared.line.Mode.TheVariants.{Replay, Run}
 use Rattle.report.specs.declared.lines.Report.{Report}
 use Rattle.report_reader.specs.Reads.{placed}
 use Rattle.report_reader.specs.Words.{parts_of, first_word, behind_word}
 use Rattle.report_reader.specs.Lines.{line_of}
 use Rattle.report_reader.specs.Forms.{IsLine, AreLines, IsReport}
-use Rattle.report_reader.specs.Reports.{written_script, script_of, script_line, mode_line, with_line, ended, lines_from, second_line, script_part, mode_part, report_of_parts, report_of}
+use Rattle.report_reader.specs.Reports.{written_script, script_of, script_line, mode_line, with_line, ended, lines_from, script_part, mode_part, report_of_parts, report_of}
 use Rattle.report_reader.specs.Laws.{HaveOneSpelling}
-use Rattle.report_reader.proofs.Parts.{same_text, HasFirst, joined, join_parts, cut, behind_some}
+use Rattle.report_reader.proofs.Parts.{same_text, HasFirst, joined, join_parts, cut}
 use Rattle.report_reader.proofs.Readings.{Each, each_as, each_if, each_word}
 use Rattle.report_reader.proofs.LinesSpelled.{line_spelled}
 

@@ -1,5 +1,5 @@
 -- The reports that have a text of their own: each number has the range of its type, and what is shown is compact JSON.
-use Rattle.std.specs.Prelude.{◌≡◌, ℕ, ◌≤◌, Bool, true, false, List, length, Option, Some, IfSome, Ok, ⊤}
+use Rattle.std.specs.Prelude.{◌≡◌, ℕ, ◌≤◌, Bool, true, false, List, length, Some, IfSome, Ok, ⊤}
 use Rattle.std.specs.List.{AllByRecursion}
 use Rattle.card_model.specs.declared.world.WorldEvent.{WorldEvent}
 use Rattle.card_model.specs.declared.world.WorldEvent.TheVariants as world_event
