@@ -72,8 +72,9 @@ use Rattle.performed.proofs.CalmKinds.{Sends, Fits, WorkFits, IsEdits, is_writer
 use Rattle.performed.proofs.CalmLent.{sent_of}
 use Rattle.performed.proofs.CalmLines.{sends_of, turn_by, turn_of, turn_is}
 use Rattle.performed.proofs.CalmRest.{told_response, responses_right}
-use Rattle.performed.proofs.CalmSends.{never, exchange_of_turn, exchange_update, world_insertion}
-use Rattle.performed.proofs.CalmShown.{unarmed_of, never_failed}
+use Rattle.performed.proofs.CalmSends.{never, exchange_of_turn, exchange_update}
+use Rattle.performed.proofs.SteadyEvents.{world_insertion}
+use Rattle.performed.proofs.SteadyShown.{unarmed_of, never_failed}
 use Rattle.performed.proofs.EditsBegun.{near, Came, stays, marks, begins, exchanges, fails, came}
 use Rattle.performed.proofs.EditsCard.{Answered, answered_of, view_same, view_other, OnBasic}
 use Rattle.performed.proofs.EditsMarks.{refused_answers, IsBegun, Begins, turn_begins}
