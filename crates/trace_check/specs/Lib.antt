@@ -1,0 +1,6 @@
+pub mod Channels
+pub mod Displays
+pub mod Edits
+pub mod Judging
+pub mod Plans
+pub mod Verdict
