@@ -128,13 +128,13 @@ told_behind l d = d
 abbrev pub displays_behind : Line → ℕ → World → Displays → Displays
 displays_behind l event world d = elim (is_event l) [ true ↦ all_refreshed event world d | false ↦ told_behind l d ]
 
--- what stood before the line and what stands behind it, but for the world, which is `world` behind the line
-pub record KeepsUp (s : Script) (l : Line) (world : World) (old new : Behind) : Type 0 where
-  pub world : new.slot.world ≡ world
+-- what stood before the line and what stands behind it, where the line left this world
+pub record KeepsUp (s : Script) (l : Line) (left : World) (old new : Behind) : Type 0 where
+  pub world : new.slot.world ≡ left
   pub faults : new.slot.plan.faults ≡ []
   pub kept : new.tracker ≡ kept_after s l old.tracker
   pub boards : new.boards ≡ boards_behind l (kept_after s l old.tracker) old.boards
-  pub displays : new.displays ≡ displays_behind l (old.tracker.history.events + 1) world old.displays
+  pub displays : new.displays ≡ displays_behind l (old.tracker.history.events + 1) left old.displays
 
 -- behind the test of the line
 abbrev pub Followed : Script → Line → Behind → Behind → Type 0

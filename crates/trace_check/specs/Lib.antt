@@ -1,3 +1,4 @@
+pub mod Behind
 pub mod Channels
 pub mod Displays
 pub mod Edits

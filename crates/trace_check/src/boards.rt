@@ -1,6 +1,5 @@
 // The boards that a look may show: behind each publication so far, the number of the one that is shown of each family.
-ghost use Rattle.std.specs.Prelude.{◌≡◌, ◌∷◌, ◌++◌, [], length, if◌then◌else◌, OnOk};
-ghost use Rattle.std.specs.Option.{option_copied};
+ghost use Rattle.std.specs.Prelude.{◌≡◌, ◌==◌, length, OnOk};
 ghost use Rattle.rules.specs.After.{is_publication as is_publication_line};
 ghost use Rattle.rules.specs.Kept.{job_of};
 ghost use Rattle.rules.specs.Rules as rules;

@@ -1,7 +1,7 @@
 // The books of two families' files, and the book that an edit makes.
-ghost use Rattle.std.specs.Prelude.{◌≡◌, ◌∷◌, [], IfOk};
-ghost use Rattle.std.specs.Option.{option_copied};
-ghost use Rattle.adn.specs.Book.{entry_row as row_of_entry};
+ghost use Rattle.std.specs.Prelude.{◌≡◌, ◌<◌, ◌&&◌, Some, length, position, IfOk, IfSome, OnOk};
+ghost use Rattle.adn.specs.declared.edit.Edit.TheVariants as edit_kind;
+ghost use Rattle.apdu.specs.Words.{is_empty as has_none};
 ghost use Rattle.families.specs.Plans as spec;
 ghost use Rattle.rules.specs.Editing.{family_edit};
 ghost use Rattle.rules.specs.Rules as rules;
@@ -33,7 +33,8 @@ fn text_copy(alloc: Global, text: &Text) -> Result<Text, Memory>
 }
 
 fn set_of(alloc: Global, at: Option<u8>, name: &Text, number: &Text) -> Result<Edit, Memory>
-    ensures { IfOk result (λ edit. edit ≡ Set at (record { name = name.now; number = number.now })) }
+    ensures { IfOk result (λ edit. edit
+        ≡ edit_kind.Set at (record { name = name.now; number = number.now })) }
 {
     let entry = AdnEntry {
         name: text_copy(alloc, name)?,
@@ -59,7 +60,7 @@ pub fn edit_of(alloc: Global, operation: &Operation) -> Result<Option<(u8, Edit)
 }
 
 fn is_empty(entry: &AdnEntry) -> bool
-    ensures { result ≡ is_entry_empty entry.now }
+    ensures { result ≡ (has_none entry.now.name && has_none entry.now.number) }
 {
     entry.name.as_str().is_empty() && entry.number.as_str().is_empty()
 }
@@ -88,10 +89,19 @@ fn is_free(row: &BookRow) -> bool
     matches!(row, BookRow::Free)
 }
 
+/// The index of the first free row.
 fn first_free(book: &[BookRow]) -> Option<usize>
+    ensures place { result ≡ position spec.is_free book.now }
+    ensures within { IfSome result (λ place. place < length book.now) }
+{
+    book.iter().position(|row| is_free(row))
+}
+
+/// The number of the first free row, from 1.
+fn free_target(book: &[BookRow]) -> Option<usize>
     ensures { result ≡ spec.from_one (position spec.is_free book.now) }
 {
-    match book.iter().position(|row| is_free(row)) {
+    match first_free(book) {
         None => None,
         Some(at) => Some(at + 1),
     }
@@ -103,7 +113,7 @@ fn target_of(book: &[BookRow], edit: &Edit) -> Option<usize>
 {
     match edit {
         Edit::Set { at: Some(at), .. } => Some(*at as usize),
-        Edit::Set { at: None, .. } => first_free(book),
+        Edit::Set { at: None, .. } => free_target(book),
         Edit::Clear { at } => Some(*at as usize),
     }
 }
@@ -149,12 +159,17 @@ pub fn same_book(a: &[BookRow], b: &[BookRow]) -> bool
 {
     let mut rest_a = a;
     let mut rest_b = b;
-    while let ([x, more_a @ ..], [y, more_b @ ..]) = (rest_a, rest_b) {
-        if !same_row(x, y) {
-            return false;
+    'rows: loop {
+        match (rest_a, rest_b) {
+            ([], []) => return true,
+            ([x, more_a @ ..], [y, more_b @ ..]) => {
+                if !same_row(x, y) {
+                    return false;
+                }
+                rest_a = more_a;
+                rest_b = more_b;
+            }
+            (_, _) => return false,
         }
-        rest_a = more_a;
-        rest_b = more_b;
     }
-    rest_a.is_empty() && rest_b.is_empty()
 }

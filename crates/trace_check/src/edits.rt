@@ -2,10 +2,10 @@
 // for the card at its first, in order, one in a turn, and for each the actor holds the session of the key that its file asks for. Behind a
 // deciding success the book is the edited one; behind a deciding update that failed it is one of the two; behind every other update it is
 // the one before. An edit that is done names the deciding success and the rows that stay marked, and no update is left to send.
-ghost use Rattle.std.specs.Prelude.{◌≡◌, true, false, Some, is_some, option_map, IfOk, IfSome};
+ghost use Rattle.std.specs.Prelude.{◌≡◌, [], true, false, Some, is_some, option_map, slice_get, unwrap_or, IfOk, IfSome};
 ghost use Rattle.std.specs.Option.{option_copied};
 ghost use Rattle.apdu.specs.Apdu.{is_update_ins as is_update, same_command as same_commands};
-ghost use Rattle.apdu.specs.Words.{has_value};
+ghost use Rattle.apdu.specs.Words.{has_value, same_bytes as same_paths};
 ghost use Rattle.card_model.specs.declared.world.World.{World as WorldValue};
 ghost use Rattle.editor.specs.Editing as editing;
 ghost use Rattle.families.specs.Families as families;
@@ -25,10 +25,10 @@ use crate::same::same_bytes;
 use crate::sessions::{lives_in, may_access};
 use crate::verifications::turn_operation;
 use adn::{Book, Edit, Plan, PlanError, RowUpdate};
-use apdu::{Command, Memory, Response};
+use apdu::{Command, Memory, Path, Response};
 use card_model::{CardState, World};
 use card_rows::{file_of, rule_of};
-use editor::{Attempt, family_paths, is_main_file_selected};
+use editor::{Attempt, family_paths};
 use fcp::Need;
 use link::{Chain, same_command};
 use planner::{EditPlans, begun_of, operation_now};
@@ -318,6 +318,25 @@ pub enum Update {
     },
 }
 
+fn is_first(paths: &[Path], path: &Path) -> bool
+    ensures { result ≡ same_paths path.now (unwrap_or (slice_get paths.now 0) []) }
+{
+    match paths.first() {
+        None => path.ids().is_empty(),
+        Some(first) => path.equals(first),
+    }
+}
+
+/// Whether the main file of the family is selected on the basic channel, which the deciding update alone is of.
+fn is_deciding(kept: &Kept, turn: &EditTurn) -> bool
+    ensures { result ≡ rules.is_deciding kept.now (spec.turn_of turn.now) }
+{
+    match &kept.selected {
+        None => false,
+        Some(selected) => is_first(family_paths(turn.family).as_slice(), selected),
+    }
+}
+
 fn update_of_edit<P: EditPlans>(
     alloc: Global,
     plans: &P,
@@ -334,7 +353,7 @@ fn update_of_edit<P: EditPlans>(
     let book = book_in(alloc, world, turn.family)?;
     Ok(Update::OfEdit {
         ordered,
-        deciding: is_main_file_selected(turn.family, kept.selected.as_ref()),
+        deciding: is_deciding(kept, &turn),
         family: turn.family,
         edit: turn.edit,
         book,

@@ -29,7 +29,7 @@ fn fault_at(script: &Script, call: u64) -> Option<&Fault>
 }
 
 /// The fault of the next call.
-fn next_fault(script: &Script, kept: &Kept) -> Option<&Fault>
+fn next_fault<'a>(script: &'a Script, kept: &Kept) -> Option<&'a Fault>
     requires { kept.now.history.calls + 1 < 2 ^ 64 }
     ensures { option_copied result ≡ rules.next_fault script.now kept.now }
 {

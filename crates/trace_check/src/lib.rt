@@ -8,7 +8,7 @@ mod boards;
 mod books;
 mod card;
 mod channels;
-mod check;
+mod checking;
 mod displays;
 mod edits;
 mod faults;
@@ -22,4 +22,4 @@ mod snapshots;
 mod turns;
 mod verifications;
 
-pub use check::{CheckError, check};
+pub use checking::{CheckError, check};

@@ -58,7 +58,7 @@ pub fn same_response(a: &Response, b: &Response) -> bool
 
 /// Whether the command is this one, where there is one.
 pub fn is_command(command: &Command, due: Option<&Command>) -> bool
-    ensures { result ≡ has_value (apdus.same_command command.now) (option_copied due) }
+    ensures { result ≡ has_value (apdus.same_command command.now) (option_copied due.entry) }
 {
     match due {
         None => false,

@@ -25,7 +25,7 @@ pub enum CheckError {
 
 impl From<Memory> for CheckError {
     ghost use Rattle.std.specs.Prelude.{◌≡◌};
-    ghost use Rattle.trace_check.specs.declared.check.CheckError.{CheckError};
+    ghost use Rattle.trace_check.specs.declared.checking.CheckError.{CheckError};
 
     ghost from_gives = { λ _ error. error ≡ CheckError.Memory };
 

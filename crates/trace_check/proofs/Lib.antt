@@ -1,0 +1,9 @@
+pub mod Editables
+pub mod Following
+pub mod Judged
+pub mod Knowing
+pub mod Numbers
+pub mod Planning
+pub mod Scripts
+pub mod Stepping
+pub mod UpTo
