@@ -60,8 +60,8 @@ begun_passes test s actor None op all h = absurd (cc)
 begun_passes test s actor (Some b) op all h = at_passes test s actor b.index op all h
 
 editable : (cards changes : ℕ) (op : Operation) (f : ℕ) (e : Edit) → has_target cards changes op ≡ true → family_edit op ≡ Some (f, e) → is_editable f ≡ true
-editable cards changes (operation.Set g at name number) f e h q = let same : g ≡ f = cc in subst (λ x. is_editable x ≡ true) same h
-editable cards changes (operation.Clear g at) f e h q = let same : g ≡ f = cc in subst (λ x. is_editable x ≡ true) same h
+editable cards changes (operation.Set g at name number) f e h q = subst (λ x. is_editable x ≡ true) (ap (λ (o : Option (ℕ × Edit)). elim o [ None ↦ g | Some p ↦ p.0 ]) q) h
+editable cards changes (operation.Clear g at) f e h q = subst (λ x. is_editable x ≡ true) (ap (λ (o : Option (ℕ × Edit)). elim o [ None ↦ g | Some p ↦ p.0 ]) q) h
 editable cards changes (operation.Insert card) f e h q = absurd (cc)
 editable cards changes operation.Out f e h q = absurd (cc)
 editable cards changes (operation.Arm change) f e h q = absurd (cc)

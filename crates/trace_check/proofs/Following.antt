@@ -15,10 +15,9 @@ use Rattle.report.specs.declared.line.Line.{Line}
 use Rattle.report.specs.declared.line.Line.TheVariants as line
 use Rattle.rules.specs.declared.kept.Kept.{Kept}
 use Rattle.rules.specs.Due.{due_event, event_by, tried_event}
-use Rattle.rules.specs.Legal.{Tests, all_pass, lowest_broken, line_tests}
+use Rattle.rules.specs.Legal.{Tests, all_pass, first_false, lowest_broken, line_tests}
 use Rattle.rules.specs.Rules.{has_right_response, same_event, is_turn_of, is_event_right, is_snapshot_right}
 use Rattle.rules.specs.State.{State, shown_in, same_shown}
-use Rattle.rules.proofs.Verdicts.{none_broken}
 use Rattle.trace_check.specs.declared.behind.Behind.{Behind}
 use Rattle.trace_check.specs.Judging.{is_sent, is_refused, tests_now}
 
@@ -52,6 +51,21 @@ unfolding after_reset
 reset_of_nothing world h = reset_none world world.inside h
 
 -- ---- tests that pass
+
+abbrev all_true : List Bool → Bool
+all_true [] = true
+all_true (b ∷ []) = b
+all_true (b ∷ c ∷ bs) = b && all_true (c ∷ bs)
+
+none_false : (n : ℕ) (bs : List Bool) → is_none (first_false n bs) ≡ all_true bs
+none_false n [] = refl
+none_false n (false ∷ []) = refl
+none_false n (true ∷ []) = refl
+none_false n (false ∷ c ∷ bs) = refl
+none_false n (true ∷ c ∷ bs) = none_false (n + 1) (c ∷ bs)
+
+none_broken : (t : Tests) → is_none (lowest_broken t) ≡ all_pass t
+none_broken t = none_false 1 (t.responses ∷ t.snapshots ∷ t.edits ∷ t.channels ∷ t.rest ∷ t.answers ∷ t.verifications ∷ t.turns ∷ t.ending ∷ t.faults ∷ [])
 
 passes : (t : Tests) → lowest_broken t ≡ None → all_pass t ≡ true
 passes t h = sym (none_broken t) ∙ ap is_none h

@@ -47,8 +47,14 @@ pub record IsUnbroken (s : Script) (m : Mode) (lines : List Line) (at : ℕ) : T
 pub unbroken_first : (s : Script) (m : Mode) → IsUnbroken s m [] 0
 unbroken_first s m = record { judged = refl }
 
-after_legal : (s : Script) (m : Mode) (l : Line) (earlier : List Line) (at : ℕ) (o : Option ℕ) → o ≡ None → record { state = state_after s l (state_of s earlier); next = at + 3 + 1; broken = at_line (at + 3) o } ≡ record { state = state_of s (l ∷ earlier); next = at + 1 + 3; broken = None }
-after_legal s m l earlier at None e = cc (omega arith)
+abbrev unbroken_at : State → ℕ → Judged
+unbroken_at st n = record { state = st; next = n; broken = None }
+
+abbrev after_by : State → ℕ → Option (ℕ × ℕ) → Judged
+after_by st n o = record { state = st; next = n; broken = o }
+
+after_legal : (s : Script) (m : Mode) (l : Line) (earlier : List Line) (at : ℕ) (o : Option ℕ) → o ≡ None → after_by (state_after s l (state_of s earlier)) (at + 3 + 1) (at_line (at + 3) o) ≡ unbroken_at (state_of s (l ∷ earlier)) (at + 1 + 3)
+after_legal s m l earlier at None e = ap (unbroken_at (state_of s (l ∷ earlier))) (omega arith)
 after_legal s m l earlier at (Some n) e = absurd (cc)
 
 pub unbroken_more : (s : Script) (m : Mode) (l : Line) (earlier : List Line) (at : ℕ) → IsUnbroken s m earlier at → lowest_broken (line_tests s m (changed_in s earlier) (state_of s earlier) l) ≡ None → IsUnbroken s m (l ∷ earlier) (at + 1)

@@ -1,5 +1,5 @@
 -- What stands behind the lines gives the tests of the rules.
-use Rattle.std.proofs.Common.{◌≡◌, ◌×◌, ◌==◌, ◌&&◌, ◌+◌, ◌-◌, ◌≤◌, ℕ, zero, suc, Bool, true, false, if◌then◌else◌, Option, Some, None, List, [], ◌∷◌, ◌++◌, map, length, refl, ap, sym, subst, ◌∙◌, arith}
+use Rattle.std.proofs.Common.{◌≡◌, ◌==◌, ◌&&◌, ◌+◌, ◌-◌, ◌≤◌, ℕ, zero, suc, Bool, true, false, if◌then◌else◌, Option, Some, None, List, [], ◌∷◌, ◌++◌, map, length, refl, ap, sym, subst, ◌∙◌, arith}
 use Rattle.std.specs.Prelude.{reverse, slice_get, unwrap_or, option_map, max, nat_lt, IfSome}
 use Rattle.std.specs.List.{list_all}
 use Rattle.apdu.specs.Words.{has_value}
@@ -18,7 +18,7 @@ use Rattle.rules.specs.State.{State, world_of, boards_of, texts_of, text_of, sho
 use Rattle.rules.specs.Rules as rules
 use Rattle.rules.specs.Rules.{has_right_place}
 use Rattle.rules.specs.Legal.{Tests, mark_tests, other_tests, line_tests, end_tests, changed_in, lowest_broken}
-use Rattle.rules.proofs.States.{state_world, state_kept, state_boards, state_texts}
+use Rattle.trace_check.proofs.States.{state_world, state_kept, state_boards, state_texts}
 use Rattle.trace_check.specs.declared.behind.Behind.{Behind}
 use Rattle.trace_check.specs.declared.displays.Display.{Display}
 use Rattle.trace_check.specs.declared.displays.Displays.{Displays}

@@ -5,5 +5,7 @@ pub mod Knowing
 pub mod Numbers
 pub mod Planning
 pub mod Scripts
+pub mod Sent
+pub mod States
 pub mod Stepping
 pub mod UpTo

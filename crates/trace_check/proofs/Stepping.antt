@@ -20,13 +20,13 @@ use Rattle.rules.specs.Standing.{standing_after, shown_behind, board_of}
 use Rattle.rules.specs.After.{is_publication, kept_after, kept_of, facts_of, refused_of, jobs_beside, family_begun}
 use Rattle.rules.specs.State.{State, world_after, world_of, boards_after, boards_of, texts_after, texts_of, text_of, shown_in, same_shown, Changes, changes_of, state_of}
 use Rattle.rules.specs.Legal.{lowest_broken, line_tests, changed_in}
-use Rattle.rules.proofs.States.{state_kept}
 use Rattle.trace_check.specs.declared.behind.Behind.{Behind}
 use Rattle.trace_check.specs.declared.displays.Display.{Display}
 use Rattle.trace_check.specs.declared.displays.Displays.{Displays}
 use Rattle.trace_check.specs.Behind.{TellsShown, Tells, IsDisplay, AreDisplays, IsBehind}
 use Rattle.trace_check.specs.Displays as spec
 use Rattle.trace_check.specs.Judging.{boards_behind, displays_behind, Follows, IsFirst}
+use Rattle.trace_check.proofs.States.{state_kept}
 use Rattle.trace_check.proofs.Following.{number_is}
 
 -- ---- boards
@@ -221,7 +221,7 @@ behind_more s m l earlier b b' h legal f =
         ap length boards
         ∙ count_by (is_publication l) (board_of (kept_of s (l ∷ earlier)).standings) b.boards
         ∙ ap (counted (is_publication l)) h.count;
-      three = length-map (step_of s l (kept_of s earlier)) (kept_of s earlier).standings ∙ h.three;
+      three = length-map (kept_of s earlier).standings (step_of s l (kept_of s earlier)) ∙ h.three;
       displays = subst (AreDisplays s (l ∷ earlier)) (sym f.displays) (displays_more s m l earlier (world_after l b.slot.world) (b.tracker.history.events + 1) b.displays world (ap (λ (k : Kept). k.history.events + 1) h.kept) legal h.displays);
     }
 

@@ -1,5 +1,5 @@
 -- What stands behind lines, the newest first.
-use Rattle.std.specs.Prelude.{◌≡◌, ◌×◌, ◌≤◌, ℕ, List, [], length, reverse, take, slice_get, IfSome}
+use Rattle.std.specs.Prelude.{◌≡◌, ◌≤◌, ℕ, List, [], length, reverse, take, slice_get, IfSome}
 use Rattle.script_reader.specs.declared.types.Script.{Script}
 use Rattle.report.specs.declared.line.Mode.{Mode}
 use Rattle.report.specs.declared.line.Line.{Line}

@@ -1,6 +1,5 @@
 -- What stands behind the lines so far, the tests by it, and how a line changes it.
 use Rattle.std.specs.Prelude.{◌≡◌, ℕ, ◌+◌, Bool, true, false, if◌then◌else◌, List, [], ◌∷◌, ◌++◌, length, reverse, slice_get, unwrap_or, Option, Some, None, ◌==◌, ◌-◌, ◌&&◌, is_some}
-use Rattle.apdu.specs.Values.{CommandValue, ResponseValue}
 use Rattle.card_model.specs.declared.world.World.{World}
 use Rattle.card_model.specs.Slot.{refusal_of}
 use Rattle.script_reader.specs.declared.types.Script.{Script}
@@ -61,12 +60,6 @@ abbrev pub is_sent : Line → Bool
 is_sent (line.Exchange a c r) = true
 is_sent (line.Failed a c d) = true
 is_sent l = false
-
-abbrev pub IsExchange : Line → CommandValue → ResponseValue → Type 0
-IsExchange l c r = (a : ℕ) × (l ≡ line.Exchange a c r)
-
-abbrev pub IsFailed : Line → CommandValue → Bool → Type 0
-IsFailed l c d = (a : ℕ) × (l ≡ line.Failed a c d)
 
 abbrev pub sent_tests : Script → Mode → State → Line → Sent
 sent_tests s m st l = record {

@@ -1,7 +1,6 @@
 // A line against the rules.
-ghost use Rattle.std.specs.Prelude.{◌≡◌, [], length, Ok, None, true, false, IfOk};
-ghost use Rattle.report.specs.declared.line.Line.TheVariants as line;
-ghost use Rattle.rules.specs.After.{is_mark};
+ghost use Rattle.std.specs.Prelude.{◌≡◌, Ok, None, true, false, IfOk};
+ghost use Rattle.report.specs.declared.line.Line.TheVariants as line_kind;
 ghost use Rattle.rules.specs.Legal.{lowest_broken as lowest_of, other_tests};
 ghost use Rattle.script_reader.specs.Rules.{keeps_rules};
 ghost use Rattle.trace_check.specs.Judging as spec;
@@ -153,12 +152,13 @@ impl<P: EditPlans> Bench<'_, P> {
         &self,
         behind: &mut Behind,
         line: &Line,
+        actor: u8,
         command: &Command,
         response: &Response,
     ) -> Result<Option<u8>, Memory>
         requires rules { keeps_rules self.now.script.now ≡ true }
         requires space { spec.HasSpace behind.old }
-        requires exchange { spec.IsExchange line.now command.now response.now }
+        requires exchange { line.now ≡ line_kind.Exchange actor command.now response.now }
         ensures broken { IfOk result (λ broken. broken ≡ lowest_of (other_tests
             self.now.script.now self.now.mode (spec.state_now behind.old) line.now)) }
         ensures tested { result ≡ Ok None → spec.Tested line.now behind.old behind.new }
@@ -181,12 +181,13 @@ impl<P: EditPlans> Bench<'_, P> {
         &self,
         behind: &mut Behind,
         line: &Line,
+        actor: u8,
         command: &Command,
         acted: bool,
     ) -> Result<Option<u8>, Memory>
         requires rules { keeps_rules self.now.script.now ≡ true }
         requires space { spec.HasSpace behind.old }
-        requires failed { spec.IsFailed line.now command.now acted }
+        requires failed { line.now ≡ line_kind.Failed actor command.now acted }
         ensures broken { IfOk result (λ broken. broken ≡ lowest_of (other_tests
             self.now.script.now self.now.mode (spec.state_now behind.old) line.now)) }
         ensures tested { result ≡ Ok None → spec.Tested line.now behind.old behind.new }
@@ -215,9 +216,15 @@ impl<P: EditPlans> Bench<'_, P> {
         match line {
             Line::Turn { .. } => self.test_mark(behind, line),
             Line::Exchange {
-                command, response, ..
-            } => self.test_exchange(behind, line, command, response),
-            Line::Failed { command, acted, .. } => self.test_failed(behind, line, command, *acted),
+                actor,
+                command,
+                response,
+            } => self.test_exchange(behind, line, *actor, command, response),
+            Line::Failed {
+                actor,
+                command,
+                acted,
+            } => self.test_failed(behind, line, *actor, command, *acted),
             _ => self.test_other(behind, line),
         }
     }
