@@ -97,3 +97,9 @@ by_actor s k (Some actor) t h e = by_begun s actor (begun_of actor k.jobs) (oper
 -- its family is one that can be edited
 pub editable_turn : (s : Script) (k : Kept) (t : EditTurn) → keeps_rules s ≡ true → edit_turn s k ≡ Some t → is_editable t.family ≡ true
 editable_turn s k t h e = by_actor s k k.turn.actor t h e
+
+-- the same of what is answered
+pub turn_family : {E : Type 0} (s : Script) (k : Kept) (r : Result (Option code.EditTurn) E) → keeps_rules s ≡ true → IfOk r (λ t. option_map turn_of t ≡ edit_turn s k) → IfOk r (λ t. IfSome t (λ x. is_editable x.family ≡ true))
+turn_family s k (Ok None) h e = tt
+turn_family s k (Ok (Some t)) h e = editable_turn s k (turn_of t) h (sym e)
+turn_family s k (Err m) h e = tt

@@ -67,17 +67,13 @@ fn edit_turn_of<'a>(
 }
 
 /// The edit whose turn it is, if it is one's.
-#[tactic(auto, using(crate::proofs::Editables::editable_turn))]
 fn edit_turn<'a>(
     alloc: Global,
     script: &Script,
     kept: &'a Kept,
 ) -> Result<Option<EditTurn<'a>>, Memory>
-    requires { keeps_rules script.now ≡ true }
-    ensures turn { IfOk result (λ turn. option_map spec.turn_of turn
+    ensures { IfOk result (λ turn. option_map spec.turn_of turn
         ≡ rules.edit_turn script.now kept.now) }
-    ensures family { IfOk result (λ turn. IfSome turn
-        (λ t. is_editable t.family ≡ true)) }
 {
     let Some(actor) = kept.turn.actor else {
         return Ok(None);
@@ -89,6 +85,20 @@ fn edit_turn<'a>(
         None => Ok(None),
         Some(operation) => edit_turn_of(alloc, actor, begun, operation),
     }
+}
+
+/// The same. Its family is one that can be edited.
+fn editable_turn<'a>(
+    alloc: Global,
+    script: &Script,
+    kept: &'a Kept,
+) -> Result<Option<EditTurn<'a>>, Memory>
+    requires { keeps_rules script.now ≡ true }
+    ensures turn { IfOk result (λ turn. option_map spec.turn_of turn
+        ≡ rules.edit_turn script.now kept.now) }
+    ensures family { IfOk result (λ turn. IfSome turn (λ t. is_editable t.family ≡ true)) }
+{
+    edit_turn(alloc, script, kept)
 }
 
 // ---- the update that is next
@@ -347,7 +357,7 @@ fn update_of_edit<P: EditPlans>(
 ) -> Result<Update, Memory>
     requires { is_editable turn.family ≡ true }
     ensures { IfOk result (λ update. update
-        ≡ spec.update_of_edit world.now kept.now command.now (spec.turn_of turn)) }
+        ≡ spec.update_of_edit world.now kept.now command.now (spec.turn_of turn.entry)) }
 {
     let ordered = is_sent_right(alloc, plans, world, kept, &turn, command)?;
     let book = book_in(alloc, world, turn.family)?;
@@ -389,7 +399,7 @@ pub fn update_before<P: EditPlans>(
     if !is_outside_raw(script, kept, command) {
         return Ok(Update::Free);
     }
-    match edit_turn(alloc, script, kept)? {
+    match editable_turn(alloc, script, kept)? {
         None => Ok(Update::Stray),
         Some(turn) => update_of_edit(alloc, plans, world, kept, turn, command),
     }
@@ -518,7 +528,7 @@ pub fn has_right_done(
     let Answer::Done { event, left, .. } = answer else {
         return Ok(true);
     };
-    match edit_turn(alloc, script, kept)? {
+    match editable_turn(alloc, script, kept)? {
         None => Ok(false),
         Some(turn) => {
             is_done_right(alloc, kept, &turn, *actor, *op, *event, left.as_slice())
