@@ -2,6 +2,7 @@ pub mod Editables
 pub mod Following
 pub mod Judged
 pub mod Knowing
+pub mod NoCard
 pub mod Numbers
 pub mod Planning
 pub mod Scripts

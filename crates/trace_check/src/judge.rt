@@ -10,15 +10,14 @@ use crate::behind::{Behind, Bench};
 use crate::card::card_inside;
 use crate::channels::are_channels_right;
 use crate::edits::{has_right_done, is_lost_update_right, is_update_right, update_before};
+use crate::exchanging::{is_answered_with, lose};
 use crate::faults::{has_right_fault, is_end_published};
 use crate::lowest::lowest_broken;
 use crate::rest::is_rest_right;
-use crate::same::same_response;
 use crate::snapshots::has_right_snapshot;
 use crate::turns::{has_right_place, is_turn_right};
 use crate::verifications::has_right_verify;
 use apdu::{Command, Memory, Response};
-use card_model::Slot;
 use planner::{EditPlans, is_finished};
 use report::Line;
 
@@ -132,6 +131,7 @@ impl<P: EditPlans> Bench<'_, P> {
     }
 
     /// The tests of an exchange, done or failed, that do not look behind it: of verifications, of turns and of faults.
+    #[tactic(auto, using(crate::proofs::Scripts::few_actors))]
     fn test_sent(&self, behind: &Behind, line: &Line) -> Sent
         requires rules { keeps_rules self.now.script.now ≡ true }
         requires space { spec.HasSpace behind.now }
@@ -148,6 +148,7 @@ impl<P: EditPlans> Bench<'_, P> {
     }
 
     /// The lowest rule that is broken at an exchange. The card has the command behind it.
+    #[tactic(auto, using(crate::proofs::Sent::exchange_broken, crate::proofs::Sent::exchange_lowest))]
     fn test_exchange(
         &self,
         behind: &mut Behind,
@@ -166,10 +167,7 @@ impl<P: EditPlans> Bench<'_, P> {
         let (world, kept) = (behind.slot.state(), behind.tracker.kept());
         let update = update_before(self.alloc, self.plans, self.script, world, kept, command)?;
         let sent = self.test_sent(behind, line);
-        let Ok(given) = behind.slot.exchange(command) else {
-            return Ok(Some(RESPONSES));
-        };
-        if !same_response(response, &given) {
+        if !is_answered_with(&mut behind.slot, command, response) {
             return Ok(Some(RESPONSES));
         }
         let edits = is_update_right(self.alloc, update, response, behind.slot.state())?;
@@ -177,6 +175,7 @@ impl<P: EditPlans> Bench<'_, P> {
     }
 
     /// The lowest rule that is broken at a failed exchange. The card has the command behind it where it acted.
+    #[tactic(auto, using(crate::proofs::Sent::failed_broken, crate::proofs::Sent::failed_lowest))]
     fn test_failed(
         &self,
         behind: &mut Behind,
@@ -198,9 +197,7 @@ impl<P: EditPlans> Bench<'_, P> {
         }
         let update = update_before(self.alloc, self.plans, self.script, world, kept, command)?;
         let sent = self.test_sent(behind, line);
-        if acted {
-            let _ = behind.slot.exchange(command);
-        }
+        lose(&mut behind.slot, command, acted);
         let edits = is_lost_update_right(self.alloc, update, behind.slot.state())?;
         Ok(sent.lowest_with(edits))
     }
@@ -230,6 +227,7 @@ impl<P: EditPlans> Bench<'_, P> {
     }
 
     /// The lowest rule that is broken at a line; where none is, what stands behind it.
+    #[tactic(auto, using(crate::proofs::Following::never_refused, crate::proofs::Sent::space_tested, crate::proofs::Sent::taken_tested, crate::proofs::Sent::tested_follows))]
     pub fn judge(&self, behind: &mut Behind, line: &Line) -> Result<Option<u8>, Memory>
         requires rules { keeps_rules self.now.script.now ≡ true }
         requires ready { spec.IsReady behind.old }

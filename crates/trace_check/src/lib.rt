@@ -11,6 +11,7 @@ mod channels;
 mod checking;
 mod displays;
 mod edits;
+mod exchanging;
 mod faults;
 mod judge;
 mod lowest;
