@@ -96,8 +96,8 @@ first_at r at rule l e h broken =
     let here : (judged_of r.script r.mode (l ∷ seen at r.lines)).broken ≡ Some (at + 3, rule) = broken_line r.script r.mode l (seen at r.lines) at rule h broken in
     let there : (judged_of r.script r.mode (seen (at + 1) r.lines)).broken ≡ Some (at + 3, rule) = ap (λ ls. (judged_of r.script r.mode ls).broken) (seen_more r.lines at l e) ∙ here in
     ended_broken r (at + 3, rule) (
-      ap (λ ls. (judged_of r.script r.mode ls).broken) (sym (seen_behind r.lines (at + 1)))
-      ∙ stays_broken r.script r.mode (reverse (drop (at + 1) (reverse r.lines))) (seen (at + 1) r.lines) (at + 3, rule) there)
+    ap (λ ls. (judged_of r.script r.mode ls).broken) (sym (seen_behind r.lines (at + 1)))
+    ∙ stays_broken r.script r.mode (reverse (drop (at + 1) (reverse r.lines))) (seen (at + 1) r.lines) (at + 3, rule) there)
 
 -- where no line breaks a rule, the end is judged
 pub first_at_end : (r : Report) → IsUnbroken r.script r.mode r.lines (length r.lines) → first_broken r ≡ at_line (length r.lines + 3) (lowest_broken (end_tests r.script r.mode (changed_in r.script r.lines) (state_of r.script r.lines)))

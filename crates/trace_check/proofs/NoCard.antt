@@ -18,8 +18,8 @@ none_inside (Some card) h = absurd (cc)
 pub no_card : {T : Type 0} (p : Plan) (w : World) (new : Option World) (c : CommandValue) (r : Result T SlotFault) → PlannedExchange (next_fault p) w new c r → p.faults ≡ [] → is_err r ≡ true → is_some (card_inside w) ≡ false
 no_card p w new c r planned faults e =
     none_inside (card_inside w) (
-      sym (ap (λ faults. is_some (fault_at (one_more p.calls) faults) || is_none (card_inside w)) faults)
-      ∙ sym planned.fails ∙ e)
+    sym (ap (λ faults. is_some (fault_at (one_more p.calls) faults) || is_none (card_inside w)) faults)
+    ∙ sym planned.fails ∙ e)
 
 -- without a card no response is right
 pub never_right : (w : World) (c : CommandValue) (r : ResponseValue) → is_some (card_inside w) ≡ false → is_response_right w c r ≡ false

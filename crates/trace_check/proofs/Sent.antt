@@ -126,7 +126,7 @@ tested_follows s l old mid new t f =
       kept = f.kept ∙ ap (kept_after s l) t.kept;
       boards = f.boards ∙ ap (λ (k : Kept). boards_behind l (kept_after s l k) mid.boards) t.kept ∙ ap (boards_behind l (kept_after s l old.tracker)) t.boards;
       displays = f.displays
-        ∙ ap (λ (k : Kept). displays_behind l (k.history.events + 1) (world_followed l mid.slot.world) mid.displays) t.kept
-        ∙ ap (λ (w : World). displays_behind l (old.tracker.history.events + 1) w mid.displays) world
-        ∙ ap (displays_behind l (old.tracker.history.events + 1) (world_after l old.slot.world)) t.displays;
+          ∙ ap (λ (k : Kept). displays_behind l (k.history.events + 1) (world_followed l mid.slot.world) mid.displays) t.kept
+          ∙ ap (λ (w : World). displays_behind l (old.tracker.history.events + 1) w mid.displays) world
+          ∙ ap (displays_behind l (old.tracker.history.events + 1) (world_after l old.slot.world)) t.displays;
     }

@@ -5,6 +5,7 @@ use Rattle.report.specs.declared.line.Line.{Line}
 use Rattle.rules.specs.declared.kept.Kept.{Kept}
 use Rattle.rules.specs.After.{kept_after, kept_of}
 use Rattle.rules.specs.State.{world_after, world_of, boards_after, boards_of, texts_after, texts_of, state_of}
+
 pub state_world : (s : Script) (lines : List Line) → (state_of s lines).world ≡ world_of s lines
 state_world s [] = refl
 state_world s (l ∷ earlier) = ap (world_after l) (state_world s earlier)
@@ -22,4 +23,3 @@ state_boards s (l ∷ earlier) =
 pub state_texts : (s : Script) (lines : List Line) → (state_of s lines).texts ≡ texts_of lines
 state_texts s [] = refl
 state_texts s (l ∷ earlier) = ap (texts_after l) (state_texts s earlier)
-

@@ -75,9 +75,9 @@ silent_one : (l : Line) (event : ℕ) (touch : Touch) (refused : Option RefusedR
 silent_one l event touch refused begun count texts f told st q h = record {
   family = h.family;
   shown =
-    let same : IfSome (shown_behind st.family l st.shown) (TellsShown count texts told) = subst (λ o. IfSome o (TellsShown count texts told)) (sym (q.shown st.family st.shown)) h.shown in
-    let counts : IfSome (shown_behind st.family l st.shown) (TellsShown (counted (is_publication l) count) texts told) = subst (λ b. IfSome (shown_behind st.family l st.shown) (TellsShown (counted b count) texts told)) (sym q.none) same in
-    subst (λ t. IfSome (shown_behind st.family l st.shown) (TellsShown (counted (is_publication l) count) t told)) (sym (q.texts texts)) counts;
+      let same : IfSome (shown_behind st.family l st.shown) (TellsShown count texts told) = subst (λ o. IfSome o (TellsShown count texts told)) (sym (q.shown st.family st.shown)) h.shown in
+      let counts : IfSome (shown_behind st.family l st.shown) (TellsShown (counted (is_publication l) count) texts told) = subst (λ b. IfSome (shown_behind st.family l st.shown) (TellsShown (counted b count) texts told)) (sym q.none) same in
+      subst (λ t. IfSome (shown_behind st.family l st.shown) (TellsShown (counted (is_publication l) count) t told)) (sym (q.texts texts)) counts;
 }
 
 text_next : (count : ℕ) (text : List ℕ) (texts : List (List ℕ)) (k : ℕ) → k ≡ count + 1 → text_of (count + 1) k (text ∷ texts) ≡ text
@@ -133,11 +133,11 @@ event_display : (s : Script) (l : Line) (earlier : List Line) (f : ℕ) (world :
 event_display s l earlier f world event d e w n q h = record {
   shown = ap (λ (x : World). shown_in x f) w;
   changed =
-    ap (λ (x : Option (List ℕ)). if same_shown x (shown_in world f) then d.changed else event) h.shown
-    ∙ ap (λ (x : World). if same_shown (shown_in (world_of s earlier) f) (shown_in x f) then d.changed else event) w
-    ∙ ap (λ (x : ℕ). if same_shown (shown_in (world_of s earlier) f) (shown_in (world_of s (l ∷ earlier)) f) then x else event) h.changed
-    ∙ ap (λ (x : ℕ). if same_shown (shown_in (world_of s earlier) f) (shown_in (world_of s (l ∷ earlier)) f) then changed_in s earlier f else x) n
-    ∙ sym (changed_more s f l earlier ∙ ap (λ (b : Bool). changed_by b (changed_in s earlier f) (counted b (kept_of s earlier).history.events) (same_shown (shown_in (world_of s earlier) f) (shown_in (world_of s (l ∷ earlier)) f))) e);
+      ap (λ (x : Option (List ℕ)). if same_shown x (shown_in world f) then d.changed else event) h.shown
+      ∙ ap (λ (x : World). if same_shown (shown_in (world_of s earlier) f) (shown_in x f) then d.changed else event) w
+      ∙ ap (λ (x : ℕ). if same_shown (shown_in (world_of s earlier) f) (shown_in (world_of s (l ∷ earlier)) f) then x else event) h.changed
+      ∙ ap (λ (x : ℕ). if same_shown (shown_in (world_of s earlier) f) (shown_in (world_of s (l ∷ earlier)) f) then changed_in s earlier f else x) n
+      ∙ sym (changed_more s f l earlier ∙ ap (λ (b : Bool). changed_by b (changed_in s earlier f) (counted b (kept_of s earlier).history.events) (same_shown (shown_in (world_of s earlier) f) (shown_in (world_of s (l ∷ earlier)) f))) e);
   told = told_silent s l earlier f d.told q h.told;
 }
 
@@ -214,13 +214,13 @@ behind_more s m l earlier b b' h legal f =
       faults = f.faults;
       kept = f.kept ∙ kept;
       boards =
-        ap reverse boards
-        ∙ boards_by (is_publication l) (board_of (kept_of s (l ∷ earlier)).standings) b.boards
-        ∙ ap (λ xs. if is_publication l then board_of (kept_of s (l ∷ earlier)).standings ∷ xs else xs) h.boards;
+          ap reverse boards
+          ∙ boards_by (is_publication l) (board_of (kept_of s (l ∷ earlier)).standings) b.boards
+          ∙ ap (λ xs. if is_publication l then board_of (kept_of s (l ∷ earlier)).standings ∷ xs else xs) h.boards;
       count =
-        ap length boards
-        ∙ count_by (is_publication l) (board_of (kept_of s (l ∷ earlier)).standings) b.boards
-        ∙ ap (counted (is_publication l)) h.count;
+          ap length boards
+          ∙ count_by (is_publication l) (board_of (kept_of s (l ∷ earlier)).standings) b.boards
+          ∙ ap (counted (is_publication l)) h.count;
       three = length-map (kept_of s earlier).standings (step_of s l (kept_of s earlier)) ∙ h.three;
       displays = subst (AreDisplays s (l ∷ earlier)) (sym f.displays) (displays_more s m l earlier (world_after l b.slot.world) (b.tracker.history.events + 1) b.displays world (ap (λ (k : Kept). k.history.events + 1) h.kept) legal h.displays);
     }

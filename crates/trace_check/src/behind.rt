@@ -105,7 +105,9 @@ fn keep_displays(
         | Line::ResetFailed { .. }
         | Line::World { .. } => refresh_all(alloc, event, world, displays),
         Line::Published {
-            family, content, ..
+            family,
+            content,
+            ..
         } => tell_all(alloc, *family, content, displays),
         _ => Ok(()),
     }

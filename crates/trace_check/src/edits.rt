@@ -447,11 +447,7 @@ pub fn is_update_right(
 }
 
 /// The rule of edits at a failed exchange; `world` is the one behind it.
-pub fn is_lost_update_right(
-    alloc: Global,
-    update: Update,
-    world: &World,
-) -> Result<bool, Memory>
+pub fn is_lost_update_right(alloc: Global, update: Update, world: &World) -> Result<bool, Memory>
     ensures { IfOk result (λ right. right ≡ spec.is_right_lost world.now update) }
 {
     match update {
@@ -489,9 +485,11 @@ fn is_done_by(
     };
     let marked = begun.editing.left_rows(alloc, decided)?;
     let living = lives_in(kept.history, begun.epoch);
-    Ok(decided.event == event
-        && same_bytes(left, marked.as_slice())
-        && begun.editing.owed_update(living).is_none())
+    Ok(
+        decided.event == event
+            && same_bytes(left, marked.as_slice())
+            && begun.editing.owed_update(living).is_none(),
+    )
 }
 
 fn is_done_right(
@@ -530,8 +528,6 @@ pub fn has_right_done(
     };
     match editable_turn(alloc, script, kept)? {
         None => Ok(false),
-        Some(turn) => {
-            is_done_right(alloc, kept, &turn, *actor, *op, *event, left.as_slice())
-        }
+        Some(turn) => { is_done_right(alloc, kept, &turn, *actor, *op, *event, left.as_slice()) }
     }
 }
