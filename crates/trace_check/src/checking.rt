@@ -34,6 +34,9 @@ impl From<Memory> for CheckError {
     }
 }
 
+/// No memory holds so many lines.
+const MOST_LINES: usize = usize::MAX - 3;
+
 /// The verdict where this rule is broken at this line, if one is.
 fn verdict(line: u64, broken: Option<u8>) -> Result<(), CheckError>
     ensures { spec.Says (at_line line broken) result }
@@ -57,10 +60,14 @@ fn line_of(lines: &Lines, at: usize) -> Result<Line, Memory>
 
 /// Whether a report is legal: no rule is broken up to any of its lines, nor up to its end. Its lines are taken one by one, from the first
 /// on, and the time is linear in them. `plans` plans edits.
+#[tactic(auto, using(crate::proofs::UpTo::upto_first, crate::proofs::UpTo::upto_ready, crate::proofs::UpTo::upto_more, crate::proofs::UpTo::upto_broken, crate::proofs::UpTo::upto_end))]
 pub fn check<P: EditPlans>(alloc: Global, plans: &P, report: &Report) -> Result<(), CheckError>
     requires { keeps_rules report.now.script ≡ true }
     ensures { spec.Says (first_broken report.now) result }
 {
+    if report.lines.len() > MOST_LINES {
+        return Err(CheckError::Memory);
+    }
     let bench = Bench {
         alloc,
         plans,
