@@ -5,6 +5,7 @@ pub mod Knowing
 pub mod NoCard
 pub mod Numbers
 pub mod Planning
+pub mod Saying
 pub mod Scripts
 pub mod Sent
 pub mod States
