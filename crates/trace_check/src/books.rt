@@ -169,7 +169,8 @@ pub fn same_book(a: &[BookRow], b: &[BookRow]) -> bool
                 rest_a = more_a;
                 rest_b = more_b;
             }
-            ([], [_, ..]) | ([_, ..], []) => return false,
+            ([], [_, ..]) => return false,
+            ([_, ..], []) => return false,
         }
     }
 }
