@@ -5,6 +5,7 @@ mod replay;
 mod served;
 mod text;
 mod top;
+mod words;
 
 use apdu::{ReaderSource, WriterSink};
 use std::process::ExitCode;
