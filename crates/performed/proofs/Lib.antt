@@ -41,6 +41,7 @@ pub mod EditsLines
 pub mod EditsTurns
 pub mod EditsKept
 pub mod EditsRule
+pub mod EditsWhole
 pub mod CalmArmed
 pub mod CalmManage
 pub mod CalmHeld
