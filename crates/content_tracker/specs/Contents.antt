@@ -1,5 +1,5 @@
 -- What the current files of each family are decoded to, and what an exchange may do to it.
-use Rattle.std.specs.Prelude.{◌≡◌, ℕ, ◌==◌, ◌&&◌, ◌||◌, Bool, true, if◌then◌else◌, List, [], ◌∷◌, map, Option, Some, None, IfSome, option_and_then}
+use Rattle.std.specs.Prelude.{◌≡◌, ℕ, ◌+◌, ◌-◌, ◌^◌, min, ◌==◌, ◌&&◌, ◌||◌, Bool, true, if◌then◌else◌, List, [], ◌∷◌, map, Option, Some, None, IfSome, option_and_then}
 use Rattle.apdu.specs.Words.{same_bytes}
 use Rattle.apdu.specs.Values.{CommandValue, ResponseValue}
 use Rattle.apdu.specs.Apdu.{fetch_ins, is_update_ins}
@@ -25,6 +25,13 @@ pub record AreOf (files : List CachedFile) (c : Contents) : Type 0 where
 
 abbrev pub no_contents : Contents
 no_contents = record { records = None; phonebook = None; fixed = None }
+
+abbrev pub kept_of : ℕ → Contents → Option StandardContent
+kept_of f c = if f == 0 then c.records else if f == 1 then c.phonebook else c.fixed
+
+-- one decoding more
+abbrev pub counted_on : ℕ → ℕ
+counted_on n = min (n + 1) (2 ^ 64 - 1)
 
 -- ---- files that are read
 

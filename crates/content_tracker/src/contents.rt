@@ -1,5 +1,5 @@
 // What the current files of each family are decoded to.
-ghost use Rattle.std.specs.Prelude.{◌≡◌, ◌<◌, None, IfOk};
+ghost use Rattle.std.specs.Prelude.{◌≡◌, ◌<◌, true, is_some, IfOk};
 ghost use Rattle.std.specs.Option.{option_copied};
 ghost use Rattle.epoch_cache.specs.Cache.{view_of_files};
 ghost use Rattle.families.specs.Contents as families;
@@ -53,6 +53,8 @@ impl Contents {
         requires known { family < families.family_count }
         requires contents { spec.AreOf files.now self.old }
         ensures contents { spec.AreOf files.now self.new }
+        ensures once { is_some (spec.kept_of family self.old) ≡ true → count.new ≡ count.old }
+        ensures kept { IfOk result (λ text. is_some (spec.kept_of family self.new) ≡ true) }
         ensures text { IfOk result (λ text. text ≡ shown family (view_of_files files.now)) }
     {
         match family {
@@ -65,12 +67,19 @@ impl Contents {
 
 // ---- texts
 
-/// What the current files of a family are decoded to.
-fn decoded(alloc: Global, family: u8, files: &CachedFiles) -> Result<StandardContent, Memory>
+/// What the current files of a family are decoded to, which is counted.
+fn decoded(
+    alloc: Global,
+    family: u8,
+    files: &CachedFiles,
+    count: &mut u64,
+) -> Result<StandardContent, Memory>
     requires { family < families.family_count }
-    ensures { IfOk result (λ content.
+    ensures content { IfOk result (λ content.
         content ≡ families.decoded family (view_of_files files.now)) }
+    ensures count { count.new ≡ spec.counted_on count.old }
 {
+    *count = count.saturating_add(1);
     Standard.decode(alloc, family, &CurrentFiles { files })
 }
 
@@ -83,15 +92,13 @@ fn kept_or_decoded(
 ) -> Result<StandardContent, Memory>
     requires known { family < families.family_count }
     requires kept { spec.IsOf family files.now kept }
-    ensures { IfOk result (λ content.
+    ensures content { IfOk result (λ content.
         content ≡ families.decoded family (view_of_files files.now)) }
+    ensures once { is_some kept ≡ true → count.new ≡ count.old }
 {
     match kept {
         Some(content) => Ok(content),
-        None => {
-            *count = count.saturating_add(1);
-            decoded(alloc, family, files)
-        }
+        None => decoded(alloc, family, files, count),
     }
 }
 
@@ -104,7 +111,9 @@ fn text_of(
 ) -> Result<Text, Memory>
     requires known { family < families.family_count }
     requires kept { spec.IsOf family files.now kept.old }
-    ensures kept { spec.IsOf family files.now kept.new }
+    ensures content { spec.IsOf family files.now kept.new }
+    ensures once { is_some kept.old ≡ true → count.new ≡ count.old }
+    ensures kept { IfOk result (λ text. is_some kept.new ≡ true) }
     ensures text { IfOk result (λ text. text ≡ shown family (view_of_files files.now)) }
 {
     let content = kept_or_decoded(alloc, family, files, kept.take(), count)?;

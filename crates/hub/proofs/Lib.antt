@@ -1,7 +1,10 @@
 pub mod Scripts
 pub mod Ties
 pub mod Played
-pub mod Shown
+pub mod Edits
+pub mod FewRows
+pub mod Begins
+pub mod Left
 pub mod Follows
 pub mod Inside
 pub mod Lively

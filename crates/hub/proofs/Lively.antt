@@ -26,7 +26,8 @@ use Rattle.channels.specs.Channels.{open_command}
 use Rattle.rules.specs.declared.holdings.Handle.{Handle}
 use Rattle.rules.specs.Channels.{handle_of, is_living_handle}
 use Rattle.rules.specs.Sessions.{verify_command}
-use Rattle.rules.specs.Work.{first_item, living_handle, reads_first, sends_close, sends_raw, work_of_operation}
+use Rattle.rules.specs.declared.kept.Decision.{Decision}
+use Rattle.rules.specs.Work.{decides, first_item, living_handle, reads_first, sends_close, sends_raw, work_of_operation}
 use Rattle.rules.specs.After.{decision_at, decision_of_begun, fresh_begun, kept_after, kept_of}
 use Rattle.rules.specs.Due.{due, command_by_chain, command_by_stage, first_command, first_of_turn}
 use Rattle.rules.specs.State.{world_of}
@@ -110,6 +111,11 @@ unfolding sends_work
 work_if true work h = refl
 work_if false work h = absurd (true≢false (sym h))
 
+decision_if : (b : Bool) (d : Decision) → sends_work (let x : Decision = elim b [ true ↦ d | false ↦ decides rests ] in x).work ≡ true → b ≡ true
+unfolding sends_work
+decision_if true d h = refl
+decision_if false d h = absurd (true≢false (sym h))
+
 epoch_lives : (h : Past) (o : Option ℕ) → lives_in h o ≡ true → h.living ≡ true
 epoch_lives h None e = absurd (true≢false (sym e))
 epoch_lives h (Some n) e = (and_parts h.living (h.epoch == n) e).0
@@ -139,6 +145,8 @@ operation_lives k a b (operation.Close handle) v h = handle_lives k sends_close 
 operation_lives k a b (operation.Verify key pin) v h = epoch_lives k.history b.epoch (work_if (lives_in k.history b.epoch) (sends (verify_command key pin)) h)
 operation_lives k a b (operation.End key) v h = absurd (true≢false (sym h))
 operation_lives k a b operation.Look v h = absurd (true≢false (sym h))
+operation_lives k a b (operation.Set f at name number) v h = epoch_lives k.history b.epoch (decision_if (lives_in k.history b.epoch) _ h)
+operation_lives k a b (operation.Clear f at) v h = epoch_lives k.history b.epoch (decision_if (lives_in k.history b.epoch) _ h)
 operation_lives k a b op v h = absurd (true≢false (sym v))
 
 begun_lives : (k : Kept) (a : ℕ) (b : Option Begun) (op : Option Operation) → ServedOp op → sends_work (decision_of_begun k a b op).work ≡ true → k.history.living ≡ true

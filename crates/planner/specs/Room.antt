@@ -1,5 +1,5 @@
 -- What the commands that are due ask of what is kept, so that they can be written, and what asks for memory.
-use Rattle.std.specs.Prelude.{◌≡◌, ◌&&◌, ℕ, Bool, IfSome, ⊤, true, false, nat_le, List, length, Option, Some, None, is_some}
+use Rattle.std.specs.Prelude.{◌≡◌, ◌&&◌, ◌==◌, ℕ, Bool, IfSome, ⊤, true, false, nat_le, List, length, Option, Some, None, is_some}
 use Rattle.std.specs.List.{list_all}
 use Rattle.adn.specs.declared.edit.RowUpdate.{RowUpdate}
 use Rattle.script_reader.specs.declared.types.Operation.{Operation}
@@ -10,6 +10,8 @@ use Rattle.rules.specs.declared.kept.Begun.{Begun}
 use Rattle.rules.specs.declared.kept.Job.{Job}
 use Rattle.editor.specs.Editing.{left_rows}
 use Rattle.rules.specs.Editing.{family_edit}
+use Rattle.rules.specs.declared.due.Due.{Due}
+use Rattle.rules.specs.declared.due.Due.TheVariants.{Give as give}
 use Rattle.rules.specs.Kept.{begun_of}
 
 -- the number is that of a logical channel
@@ -40,9 +42,10 @@ begun_fits (Some b) = attempt_fits b.editing.attempt
 abbrev pub is_short : RowUpdate → Bool
 is_short u = update_fits u && nat_le u.row 255
 
-abbrev pub is_short_attempt : Option Attempt → Bool
-is_short_attempt None = true
-is_short_attempt (Some a) = list_all is_short (plan_updates a.plan)
+-- an attempt that has sent nothing yet, of such updates
+abbrev pub is_new_attempt : Option Attempt → Bool
+is_new_attempt None = true
+is_new_attempt (Some a) = list_all is_short (plan_updates a.plan) && (a.sent == 0)
 
 -- those of the actor whose turn it is
 abbrev pub turn_fits : Option ℕ → List Job → Bool
@@ -74,3 +77,7 @@ AreLeft (Some b) ready = IfSome ready (λ rows. IfSome b.editing.decided (λ d. 
 abbrev pub AreLeftInTurn : Option ℕ → List Job → Option (List ℕ) → Type 0
 AreLeftInTurn None jobs ready = ⊤
 AreLeftInTurn (Some actor) jobs ready = AreLeft (begun_of actor jobs) ready
+
+abbrev pub is_given : Due → Bool
+is_given (give x) = true
+is_given line = false

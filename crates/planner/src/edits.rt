@@ -132,7 +132,7 @@ fn first_lack(kept: &Kept, actor: u8, family: u8, plan: &Plan) -> Option<u8>
 fn begins_plan(kept: &Kept, actor: u8, family: u8, plan: Plan, paths: PathList) -> Decision
     requires { list_all room.is_short (plan_updates plan) ≡ true }
     ensures value { result ≡ spec.begins_plan kept.now actor family plan paths }
-    ensures short { room.is_short_attempt result.attempt ≡ true }
+    ensures short { room.is_new_attempt result.attempt ≡ true }
 {
     match first_lack(kept, actor, family, &plan) {
         Some(key) => decides(Work::Lacks(key)),
@@ -153,7 +153,7 @@ fn plans<P: EditPlans>(
     paths: PathList,
 ) -> Result<Decision, Memory>
     ensures value { IfOk result (λ d. d ≡ spec.plans kept.now actor family edit.now paths) }
-    ensures short { IfOk result (λ d. room.is_short_attempt d.attempt ≡ true) }
+    ensures short { IfOk result (λ d. room.is_new_attempt d.attempt ≡ true) }
 {
     match planner.plan(alloc, family, edit, &kept.files)? {
         Err(refusal) => Ok(decides(Work::Refuses(refusal))),
@@ -183,7 +183,7 @@ fn attempts<P: EditPlans>(
 ) -> Result<Decision, Memory>
     ensures value { IfOk result (λ d. d ≡ spec.attempts kept.now actor family edit.now
         (option_copied attempt.entry) paths) }
-    ensures short { IfOk result (λ d. room.is_short_attempt d.attempt ≡ true) }
+    ensures short { IfOk result (λ d. room.is_new_attempt d.attempt ≡ true) }
 {
     match attempt {
         Some(attempt) => Ok(decides(goes_on(attempt))),
@@ -203,7 +203,7 @@ fn undecided_work<P: EditPlans>(
 ) -> Result<Decision, Memory>
     ensures value { IfOk result (λ d. d ≡ spec.undecided_work kept.now actor family edit.now
         (option_copied attempt.entry)) }
-    ensures short { IfOk result (λ d. room.is_short_attempt d.attempt ≡ true) }
+    ensures short { IfOk result (λ d. room.is_new_attempt d.attempt ≡ true) }
 {
     let paths = edit_paths(alloc, &kept.files, family)?;
     if let Some(path) = first_missing(&kept.files, paths.as_slice()) {
@@ -234,7 +234,7 @@ fn edit_work<P: EditPlans>(
 ) -> Result<Decision, Memory>
     ensures value { IfOk result (λ d. d
         ≡ spec.edit_work kept.now actor family edit.now editing.now) }
-    ensures short { IfOk result (λ d. room.is_short_attempt d.attempt ≡ true) }
+    ensures short { IfOk result (λ d. room.is_new_attempt d.attempt ≡ true) }
 {
     match editing.decided {
         None => undecided_work(
@@ -261,7 +261,7 @@ fn work_of_edit<P: EditPlans>(
 ) -> Result<Decision, Memory>
     ensures value { IfOk result (λ d. d
         ≡ spec.work_of_edit kept.now actor begun.now (Some (family, edit.now))) }
-    ensures short { IfOk result (λ d. room.is_short_attempt d.attempt ≡ true) }
+    ensures short { IfOk result (λ d. room.is_new_attempt d.attempt ≡ true) }
 {
     if lives_in(kept.history, begun.epoch) {
         edit_work(alloc, planner, kept, actor, family, edit, &begun.editing)
@@ -284,7 +284,7 @@ pub fn work_of_set<P: EditPlans>(
 ) -> Result<Decision, Memory>
     ensures value { IfOk result (λ d. d ≡ spec.work_of_edit kept.now actor begun.now
         (Some (family, edit_kind.Set at (record { name = name.now; number = number.now })))) }
-    ensures short { IfOk result (λ d. room.is_short_attempt d.attempt ≡ true) }
+    ensures short { IfOk result (λ d. room.is_new_attempt d.attempt ≡ true) }
 {
     let entry = AdnEntry {
         name: Text::from_str(alloc, name.as_str())?,
@@ -306,7 +306,7 @@ pub fn work_of_clear<P: EditPlans>(
 ) -> Result<Decision, Memory>
     ensures value { IfOk result (λ d. d
         ≡ spec.work_of_edit kept.now actor begun.now (Some (family, edit_kind.Clear at))) }
-    ensures short { IfOk result (λ d. room.is_short_attempt d.attempt ≡ true) }
+    ensures short { IfOk result (λ d. room.is_new_attempt d.attempt ≡ true) }
 {
     let edit = Edit::Clear { at };
     work_of_edit(alloc, planner, kept, actor, begun, family, &edit)
