@@ -1,5 +1,5 @@
 -- What an exchange does to the files of a family whose content is kept.
-use Rattle.std.proofs.Common.{◌≡◌, ◌<◌, ◌⊎◌, inl, inr, ◌==◌, ◌&&◌, ◌||◌, not, ℕ, Bool, true, false, cond, List, [], ◌∷◌, map, filter, find, Option, Some, None, IfSome, is_some, option_map, refl, sym, ap, subst, ◌∙◌, true≢false, lit<, ◌+◌, ◌-◌}
+use Rattle.std.proofs.Common.{◌≡◌, ◌<◌, ◌⊎◌, inl, inr, ◌==◌, ◌&&◌, ◌||◌, not, ℕ, Bool, true, false, cond, List, [], ◌∷◌, ◌++◌, map, filter, find, Option, Some, None, IfSome, is_some, option_map, refl, sym, ap, subst, ◌∙◌, true≢false, lit<, ◌+◌, ◌-◌}
 use Rattle.std.specs.Prelude.{option_and_then}
 use Rattle.std.specs.List.{list_any, list_all}
 use Rattle.std.proofs.lemmas.Bool.{and_parts}
@@ -8,6 +8,7 @@ use Rattle.apdu.specs.Words.{same_bytes, path_is_in, has_value}
 use Rattle.apdu.specs.Apdu.{fetch_ins, is_success, is_update_ins, same_command}
 use Rattle.refresh_cmd.specs.Values.{ProactiveValue}
 use Rattle.refresh_cmd.specs.Proactive.{read_proactive}
+use Rattle.fcp.specs.Control.{read_fcp}
 use Rattle.fcp.specs.declared.control.Fcp.{Fcp}
 use Rattle.fcp.specs.declared.control.FcpError.{FcpError}
 use Rattle.std.specs.Prelude.{Result, Ok, Err}
@@ -24,7 +25,7 @@ use Rattle.epoch_cache.specs.declared.cached.Written.TheVariants as written
 use Rattle.epoch_cache.specs.Cache.{all_current, content_or_missing, files_exchanged, forgotten, handed_refresh, refresh_of, is_current, is_moved, is_of, is_row_update, is_update, patched, taken, touch_exchanged, view_of_files, with_completed, written_by, written_files}
 use Rattle.epoch_cache.proofs.LookUps.{same_equal, others_with}
 use Rattle.loader.specs.Values.{ReadingValue, is_readable}
-use Rattle.loader.specs.Reading.{begun, begun_by, completed_by, complete_one, file_of_complete, file_read, further, is_basic_read, is_complete, no_file, reading_after, reading_at, reading_of, is_reading_of, tells_no_file}
+use Rattle.loader.specs.Reading.{next_read, row_read, begun, begun_by, completed_by, complete_one, file_of_complete, file_read, further, is_basic_read, is_complete, no_file, reading_after, reading_at, reading_of, is_reading_of, tells_no_file}
 use Rattle.script_reader.specs.declared.types.Script.{Script}
 use Rattle.report.specs.declared.line.Line.{Line}
 use Rattle.report.specs.declared.line.Line.TheVariants.{Exchange}
@@ -59,23 +60,23 @@ begun_path (Some path) n (Ok control) file e = by (is_readable control) e
 select_path : (f : Final) (file : CachedFile) → file_of_complete (begun f) ≡ Some file → named_path f.command ≡ Some file.path
 select_path f file e = by (is_success f.response.sw) e
   where
-    by : (b : Bool) → file_of_complete (elim b [ true ↦ begun_by (named_path f.command) f.first_event _ | false ↦ None ]) ≡ Some file → named_path f.command ≡ Some file.path
-    by true h = begun_path (named_path f.command) f.first_event _ file h
+    by : (b : Bool) → file_of_complete (elim b [ true ↦ begun_by (named_path f.command) f.first_event (read_fcp f.response.body) | false ↦ None ]) ≡ Some file → named_path f.command ≡ Some file.path
+    by true h = begun_path (named_path f.command) f.first_event (read_fcp f.response.body) file h
     by false h = absurd (cc)
 
 reading_path : (path : List ℕ) (readings : List ReadingValue) (g : ReadingValue) → reading_of path readings ≡ Some g → g.path ≡ path
 reading_path path [] g e = absurd (cc)
-reading_path path (x ∷ readings) g e = by (is_reading_of path x) refl e
+reading_path path (x ∷ readings) g e = by (is_reading_of path x) refl (λ h. reading_path path readings g h) e
   where
-    by : (b : Bool) → is_reading_of path x ≡ b → cond b (Some x) (reading_of path readings) ≡ Some g → g.path ≡ path
-    by true is h = let same : x ≡ g = cc in subst (λ (y : ReadingValue). y.path ≡ path) same (same_equal x.path path is)
-    by false is h = reading_path path readings g h
+    by : (b : Bool) → is_reading_of path x ≡ b → (reading_of path readings ≡ Some g → g.path ≡ path) → cond b (Some x) (reading_of path readings) ≡ Some g → g.path ≡ path
+    by true is rest h = let same : x ≡ g = cc in subst (λ (y : ReadingValue). y.path ≡ path) same (same_equal x.path path is)
+    by false is rest h = rest h
 
 further_path : (f : Final) (g : ReadingValue) (file : CachedFile) → file_of_complete (further f g) ≡ Some file → file.path ≡ g.path
-further_path f g file e = by (is_success f.response.sw && _) e
+further_path f g file e = by (is_success f.response.sw && has_value (same_command f.command) (next_read g)) e
   where
-    by : (b : Bool) → file_of_complete (cond b (Some (record g { rows = _ })) None) ≡ Some file → file.path ≡ g.path
-    by true h = path_of_file (record g { rows = _ }) file h
+    by : (b : Bool) → file_of_complete (cond b (Some (record g { rows = g.rows ++ row_read f ∷ [] })) None) ≡ Some file → file.path ≡ g.path
+    by true h = path_of_file (record g { rows = g.rows ++ row_read f ∷ [] }) file h
     by false h = absurd (cc)
 
 at_path : (f : Final) (selected : Option (List ℕ)) (readings : List ReadingValue) (o : Option ReadingValue) (file : CachedFile) → reading_at selected readings ≡ o → file_of_complete (option_and_then (further f) o) ≡ Some file → selected ≡ Some file.path
@@ -146,7 +147,7 @@ taken_forgotten t q (file ∷ files) b e = by (is_of q file) refl (is_moved t fi
     by false own true gone rest = rest
     by false own false gone rest = ap (λ x. cond x (Some file) (taken q (forgotten t files))) own ∙ rest
 
-Apart : ℕ → Option CachedFile → Type 0
+pub Apart : ℕ → Option CachedFile → Type 0
 Apart f completed = (file : CachedFile) → completed ≡ Some file → has_path f file.path ≡ false
 
 taken_completed : (f : ℕ) (completed : Option CachedFile) (files : List CachedFile) (q : List ℕ) → Apart f completed → has_path f q ≡ true → taken q (with_completed completed files) ≡ taken q files
@@ -156,23 +157,23 @@ taken_completed f (Some file) files q apart has = others_with file files q (apar
 
 one_current : (files : List CachedFile) (paths : List (List ℕ)) (q : List ℕ) → all_current files paths ≡ true → path_is_in paths q ≡ true → is_current files q ≡ true
 one_current files [] q all has = absurd (true≢false (sym has))
-one_current files (p ∷ paths) q all has = by (same_bytes q p) refl has
+one_current files (p ∷ paths) q all has =
+    let parts = and_parts (is_current files p) (all_current files paths) all in
+    by (same_bytes q p) refl parts.0 (λ h. one_current files paths q parts.1 h) has
   where
-    parts : (is_current files p ≡ true) × (all_current files paths ≡ true)
-    parts = and_parts (is_current files p) (all_current files paths) all
-    by : (b : Bool) → same_bytes q p ≡ b → (b || path_is_in paths q) ≡ true → is_current files q ≡ true
-    by true is h = ap (is_current files) (same_equal q p is) ∙ parts.0
-    by false is h = one_current files paths q parts.1 h
+    by : (b : Bool) → same_bytes q p ≡ b → is_current files p ≡ true → (path_is_in paths q ≡ true → is_current files q ≡ true) → (b || path_is_in paths q) ≡ true → is_current files q ≡ true
+    by true is here rest h = ap (is_current files) (same_equal q p is) ∙ here
+    by false is here rest h = rest h
 
 module _ (f : ℕ) (selected : Option (List ℕ)) (c : CommandValue) (r : ResponseValue) (raw : Bool) (completed : Option CachedFile) (files : List CachedFile) (apart : Apart f completed) where
-  touch : Touch
+  pub touch : Touch
   touch = touch_exchanged raw selected c r
 
-  behind : List CachedFile
+  pub behind : List CachedFile
   behind = files_exchanged touch selected c completed files
 
   taken_behind : (q : List ℕ) → has_path f q ≡ true → (b : Bool) → is_moved touch q ≡ b → taken q behind ≡ cond b None (taken q (written_files selected c files (written_by raw selected c r)))
-  unfolding behind, touch
+  unfolding behind touch
   taken_behind q has b e = taken_completed f completed _ q apart has ∙ taken_forgotten touch q (written_files selected c files (written_by raw selected c r)) b e
 
   none_moved : (q : List ℕ) (w : Written) → written_by raw selected c r ≡ w → is_moved (record { begins = false; written = w; refresh = touch.refresh }) q ≡ is_moved touch q
@@ -208,7 +209,7 @@ module _ (f : ℕ) (selected : Option (List ℕ)) (c : CommandValue) (r : Respon
   row_is (Some path) = refl
 
   one_behind : (q : List ℕ) → has_path f q ≡ true → is_current behind q ≡ true → view_of_files behind q ≡ view_of_files (behind_row (row_written selected c r) c.body files) q
-  unfolding behind, touch
+  unfolding behind touch
   one_behind q has current =
       let h = current_behind q has current (is_moved touch q) refl in
       ap content_or_missing (written_row selected (is_update c r) raw (is_row_update c) q (taken q behind) h.0 h.1 current)
@@ -218,7 +219,7 @@ module _ (f : ℕ) (selected : Option (List ℕ)) (c : CommandValue) (r : Respon
   follows_one content was all = record { before = files; bytes = c.body; was = was; same = λ q has. one_behind q has (one_current behind (family_paths f) q all has) }
 
   pub behind_is : behind ≡ files_exchanged (touch_exchanged raw selected c r) selected c completed files
-  unfolding behind, touch
+  unfolding behind touch
   behind_is = refl
 
   -- a command that writes nothing and fetches nothing
@@ -226,7 +227,7 @@ module _ (f : ℕ) (selected : Option (List ℕ)) (c : CommandValue) (r : Respon
   quiet_write true s rest e = absurd (true≢false e)
   quiet_write false s rest e = refl
 
-  quiet_fetch : (i s : Bool) (rest : Option ProactiveValue) → i ≡ false → (elim (i && s) [ true ↦ rest | false ↦ None ]) ≡ None
+  quiet_fetch : (i s : Bool) (rest : Option ProactiveValue) → i ≡ false → (let x : Option ProactiveValue = elim (i && s) [ true ↦ rest | false ↦ None ] in x) ≡ None
   quiet_fetch true s rest e = absurd (true≢false e)
   quiet_fetch false s rest e = refl
 
@@ -243,7 +244,7 @@ module _ (f : ℕ) (selected : Option (List ℕ)) (c : CommandValue) (r : Respon
       ∙ ap (λ (x : Option ProactiveValue). is_moved (record { begins = false; written = written.Nothing; refresh = x }) q) (hands_nothing h)
 
   pub unchanged_one : is_update_ins c.ins ≡ false → (c.ins == fetch_ins) ≡ false → f < 3 → (content : StandardContent) → content ≡ decoded f (view_of_files files) → content ≡ decoded f (view_of_files behind)
-  unfolding behind, touch
+  unfolding behind touch
   unchanged_one e h known content was =
       was ∙ sym (same_decoded f (view_of_files behind) (view_of_files files) known (λ q has.
       ap content_or_missing (taken_behind q has false (moves_nothing e h q) ∙ ap (λ w. taken q (written_files selected c files w)) (writes_nothing e))))
@@ -304,7 +305,7 @@ module _ (s : Script) (k : Kept) (a : ℕ) (c : CommandValue) (r : ResponseValue
   files_now = (kept_after s (Exchange a c r) k).files
 
   follow_by : (f : ℕ) (kept : Option StandardContent) → IsOf f k.files kept → IfSome kept (λ _. Apart f completed) → Follows f (row_written k.selected c r) kept files_now
-  unfolding completed, beside
+  unfolding completed beside
   follow_by f None h apart = tt
   follow_by f (Some content) h apart =
       λ all. subst (λ files. WasBefore f (row_written k.selected c r) content files) (behind_is f k.selected c r (is_raw_line s (Exchange a c r) k.jobs) completed k.files apart)
@@ -312,7 +313,7 @@ module _ (s : Script) (k : Kept) (a : ℕ) (c : CommandValue) (r : ResponseValue
       (subst (λ files. all_current files (family_paths f) ≡ true) (sym (behind_is f k.selected c r (is_raw_line s (Exchange a c r) k.jobs) completed k.files apart)) all))
 
   still_by : (f : ℕ) (kept : Option StandardContent) → f < 3 → is_update_ins c.ins ≡ false → (c.ins == fetch_ins) ≡ false → IsOf f k.files kept → IfSome kept (λ _. Apart f completed) → IsOf f files_now kept
-  unfolding completed, beside
+  unfolding completed beside
   still_by f None known u w h apart = tt
   still_by f (Some content) known u w h apart =
       unchanged_one f k.selected c r (is_raw_line s (Exchange a c r) k.jobs) completed k.files apart u w known content h

@@ -26,11 +26,11 @@ same_row content i = ap (λ rows. let c : Content = record { kind = content.kind
 
 found_of : (q : List ℕ) (files : List CachedFile) (file : CachedFile) → taken q files ≡ Some file → is_of q file ≡ true
 found_of q [] file e = absurd (cc)
-found_of q (x ∷ files) file e = by (is_of q x) refl e
+found_of q (x ∷ files) file e = by (is_of q x) refl (λ h. found_of q files file h) e
   where
-    by : (b : Bool) → is_of q x ≡ b → cond b (Some x) (taken q files) ≡ Some file → is_of q file ≡ true
-    by true is h = let same : x ≡ file = cc in subst (λ (y : CachedFile). is_of q y ≡ true) same is
-    by false is h = found_of q files file h
+    by : (b : Bool) → is_of q x ≡ b → (taken q files ≡ Some file → is_of q file ≡ true) → cond b (Some x) (taken q files) ≡ Some file → is_of q file ≡ true
+    by true is rest h = let same : x ≡ file = cc in subst (λ (y : CachedFile). is_of q y ≡ true) same is
+    by false is rest h = rest h
 
 patched_by : (q : List ℕ) (row : ℕ) (bytes : List ℕ) (file : CachedFile) (own fits : Bool) → own ≡ true → is_row_of row bytes file.content ≡ fits
     → (let f : CachedFile = cond (own && fits) (record file { content = with_row (row - 1) bytes file.content }) file in f).content ≡ with_row (row - 1) (cond fits bytes (get_or file.content.rows (row - 1) [])) file.content
@@ -115,7 +115,7 @@ row_content (suc (suc zero)) w content files known edits has t =
 row_content (suc (suc (suc f))) w content files known edits has t = absurd (omega arith)
 
 -- a row of a file of another family
-apart_by : (f : ℕ) (path q : List ℕ) (b : Bool) → same_bytes path q ≡ b → has_path f path ≡ false → has_path f q ≡ true → b ≡ false
+pub apart_by : (f : ℕ) (path q : List ℕ) (b : Bool) → same_bytes path q ≡ b → has_path f path ≡ false → has_path f q ≡ true → b ≡ false
 apart_by f path q false e none has = refl
 apart_by f path q true e none has =
     let same : path ≡ q = same_equal path q e in

@@ -4,8 +4,10 @@ use Rattle.fcp.specs.Content.{Content, missing}
 use Rattle.families.specs.declared.content.StandardContent.{StandardContent}
 use Rattle.families.specs.declared.content.StandardContent.TheVariants as content
 use Rattle.families.specs.declared.content.Records.{Records}
-use Rattle.families.specs.Families.{View, has_path, iccid_path, imsi_path, ad_path, spn_path, msisdn_path, ext5_path, dir_path, adn_path, ext1_path, fdn_path, ext2_path}
-use Rattle.families.specs.Contents.{decoded, field_of, applications_of, files_of}
+use Rattle.families.specs.Patches.{WasContent, path_at}
+use Rattle.families.proofs.Shown.{decoded_shown}
+use Rattle.families.specs.Families.{View, shown, has_path, iccid_path, imsi_path, ad_path, spn_path, msisdn_path, ext5_path, dir_path, adn_path, ext1_path, fdn_path, ext2_path}
+use Rattle.families.specs.Contents.{content_text, decoded, field_of, applications_of, files_of}
 use Rattle.sim_codecs.specs.Digits.{iccid_of, imsi_of}
 use Rattle.sim_codecs.specs.Fields.{spn_of, ad_of}
 use Rattle.adn.specs.Book.{decode_book}
@@ -37,7 +39,7 @@ same_book : {a b a' b' : Content} → a ≡ a' → b ≡ b' → book_by a b ≡ 
 same_book p q = cc
 
 pub same_decoded : (f : ℕ) (v w : View) → f < 3 → SameIn f v w → decoded f v ≡ decoded f w
-unfolding records_by, book_by
+unfolding records_by book_by
 same_decoded zero v w known same = same_records (same iccid_path refl) (same imsi_path refl) (same ad_path refl) (same spn_path refl) (same msisdn_path refl) (same ext5_path refl) (same dir_path refl)
 same_decoded (suc zero) v w known same = same_book (same adn_path refl) (same ext1_path refl)
 same_decoded (suc (suc zero)) v w known same = same_book (same fdn_path refl) (same ext2_path refl)
@@ -50,3 +52,17 @@ one_view (Some file) = refl
 -- the view of current files
 pub current_view : (files : List CachedFile) (q : List ℕ) → files_of (λ path. content_taken path files) q ≡ view_of_files files q
 current_view files q = one_view (taken q files)
+
+pub current_decoded : (f : ℕ) (files : List CachedFile) → f < 3 → decoded f (files_of (λ path. content_taken path files)) ≡ decoded f (view_of_files files)
+current_decoded f files known = same_decoded f (files_of (λ path. content_taken path files)) (view_of_files files) known (λ q has. current_view files q)
+
+-- the text of what is decoded
+pub kept_shown : (f : ℕ) (files : List CachedFile) (c : StandardContent) → c ≡ decoded f (view_of_files files) → content_text c ≡ shown f (view_of_files files)
+kept_shown f files c e = ap content_text e ∙ decoded_shown f (view_of_files files)
+
+-- what was decoded before a row was written, by the view of current files
+pub was_current : (decode : View → StandardContent) (paths : List (List ℕ)) (file row : ℕ) (c : StandardContent) (files : List CachedFile) → WasContent decode paths file row c (view_of_files files) → WasContent decode paths file row c (files_of (λ path. content_taken path files))
+was_current decode paths file row c files h = record {
+  before = h.before; bytes = h.bytes; decoded = h.decoded;
+  files = λ i within. current_view files (path_at paths i) ∙ h.files i within;
+}

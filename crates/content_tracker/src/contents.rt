@@ -57,10 +57,12 @@ impl Contents {
         ensures kept { IfOk result (λ text. is_some (spec.kept_of family self.new) ≡ true) }
         ensures text { IfOk result (λ text. text ≡ shown family (view_of_files files.now)) }
     {
-        match family {
-            RECORDS => text_of(alloc, RECORDS, files, &mut self.records, count),
-            PHONEBOOK => text_of(alloc, PHONEBOOK, files, &mut self.phonebook, count),
-            _ => text_of(alloc, FIXED, files, &mut self.fixed, count),
+        if family == RECORDS {
+            text_of(alloc, RECORDS, files, &mut self.records, count)
+        } else if family == PHONEBOOK {
+            text_of(alloc, PHONEBOOK, files, &mut self.phonebook, count)
+        } else {
+            text_of(alloc, FIXED, files, &mut self.fixed, count)
         }
     }
 }

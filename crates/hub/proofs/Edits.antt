@@ -26,7 +26,7 @@ use Rattle.rules.specs.declared.kept.Facts.{Facts}
 use Rattle.rules.specs.declared.kept.Job.{Job}
 use Rattle.rules.specs.declared.kept.Kept.{Kept}
 use Rattle.rules.specs.Kept.{change_at, changed_at, first_job, operation_now}
-use Rattle.rules.specs.After.{actor_of, begun_beside, decision_at, edit_of, editing_answered, editing_lost, editing_sent, facts_of, framework_marked, job_beside, jobs_beside, jobs_of_actor, kept_after, own_job}
+use Rattle.rules.specs.After.{actor_of, begun_beside, begun_exchanged, begun_failed, begun_with, decision_at, edit_of, editing_answered, editing_lost, editing_sent, facts_of, framework_marked, job_beside, jobs_beside, jobs_of_actor, kept_after, own_job}
 use Rattle.planner.specs.Room.{is_new_attempt, is_short}
 use Rattle.hub.specs.Short.{are_short, is_row_number, is_short_attempt, is_short_begun, is_short_editing, is_short_job}
 
@@ -179,12 +179,12 @@ has_row l = true
 
 own_short : (n : ℕ) (s : Script) (l : Line) (k : Kept) (facts : Facts) (attempt : Option Attempt) (job : Job) → is_new_attempt attempt ≡ true → has_row l ≡ true → is_short_job n job ≡ true → is_short_job (suc n) (own_job s l k facts attempt job) ≡ true
 own_short n s (line.Turn zero) k facts attempt job new row h = begun_grown n job.begun h
-own_short n s (line.Turn (suc a)) k facts attempt job new row h = begun_grown n _ (begun_short n _ job.begun (λ b e. with_short n attempt b.editing new e) h)
-own_short n s (line.Begin a i) k facts attempt job new row h = whole_of (suc n) _ (with_short (suc n) attempt no_editing new (record { attempt = refl; marked = refl }))
+own_short n s (line.Turn (suc a)) k facts attempt job new row h = begun_grown n (option_map (begun_with attempt) job.begun) (begun_short n (begun_with attempt) job.begun (λ b e. with_short n attempt b.editing new e) h)
+own_short n s (line.Begin a i) k facts attempt job new row h = whole_of (suc n) (with_attempt attempt no_editing) (with_short (suc n) attempt no_editing new (record { attempt = refl; marked = refl }))
 own_short n s (line.Exchange a c r) k facts attempt job new row h =
-    begun_longer n _ job.begun (λ b e. answered_short (suc n) (edit_of (operation_now s a k.jobs)) k.selected facts.event c r (editing_sent c k.chain b.editing) row (editing_sent_short n c k.chain b.editing e)) h
+    begun_longer n (begun_exchanged (edit_of (operation_now s a k.jobs)) k.selected k.chain facts.event c r) job.begun (λ b e. answered_short (suc n) (edit_of (operation_now s a k.jobs)) k.selected facts.event c r (editing_sent c k.chain b.editing) row (editing_sent_short n c k.chain b.editing e)) h
 own_short n s (line.Failed a c d) k facts attempt job new row h =
-    begun_longer n _ job.begun (λ b e. lost_short (suc n) (edit_of (operation_now s a k.jobs)) k.selected facts.event c (editing_sent c k.chain b.editing) (editing_sent_short n c k.chain b.editing e)) h
+    begun_longer n (begun_failed (edit_of (operation_now s a k.jobs)) k.selected k.chain facts.event c) job.begun (λ b e. lost_short (suc n) (edit_of (operation_now s a k.jobs)) k.selected facts.event c (editing_sent c k.chain b.editing) (editing_sent_short n c k.chain b.editing e)) h
 own_short n s (line.Reset a) k facts attempt job new row h = begun_grown n job.begun h
 own_short n s (line.ResetFailed a) k facts attempt job new row h = begun_grown n job.begun h
 own_short n s (line.World a e) k facts attempt job new row h = begun_grown n job.begun h

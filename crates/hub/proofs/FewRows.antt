@@ -38,7 +38,7 @@ sooner low high (x ∷ xs) less h = let first = h.0 in (omega arith, h.1, h.2)
 row_rises : (low r : ℕ) (xs : List ℕ) → low ≤ r → r ≤ 255 → Rising low xs → Rising low (with_row r xs)
 unfolding Rising
 row_rises low r [] first byte h = (first, byte, omega arith)
-row_rises low r (x ∷ xs) first byte h = by (r == x) (nat_lt r x) refl refl
+row_rises low r (x ∷ xs) first byte h = by (r == x) (nat_lt r x) refl refl (λ less. row_rises (x + 1) r xs less byte h.2)
   where
     above : (b : Bool) → nat_lt x r ≡ b → (r == x) ≡ false → nat_lt r x ≡ false → x + 1 ≤ r
     above true e same less = let high = ltb-true x r e in omega arith
@@ -47,10 +47,10 @@ row_rises low r (x ∷ xs) first byte h = by (r == x) (nat_lt r x) refl refl
         let low2 = ltb-false r x less in
         let at : r ≡ x = omega arith in
         absurd (true≢false (sym (eq-eqb r x at) ∙ same))
-    by : (same less : Bool) → (r == x) ≡ same → nat_lt r x ≡ less → Rising low (if same then x ∷ xs else if less then r ∷ x ∷ xs else x ∷ with_row r xs)
-    by true less g e = h
-    by false true g e = let below = ltb-true r x e in (first, byte, omega arith, h.1, h.2)
-    by false false g e = (h.0, h.1, row_rises (x + 1) r xs (above (nat_lt x r) refl g e) byte h.2)
+    by : (same less : Bool) → (r == x) ≡ same → nat_lt r x ≡ less → (x + 1 ≤ r → Rising (x + 1) (with_row r xs)) → Rising low (if same then x ∷ xs else if less then r ∷ x ∷ xs else x ∷ with_row r xs)
+    by true less g e rest = h
+    by false true g e rest = let below = ltb-true r x e in (first, byte, (omega arith, h.1, h.2))
+    by false false g e rest = (h.0, h.1, rest (above (nat_lt x r) refl g e))
 
 all_rise : (xs : List ℕ) → list_all is_row_number xs ≡ true → Rising 0 (rising xs)
 unfolding Rising
@@ -67,13 +67,13 @@ both false b e f = absurd (true≢false (sym e))
 
 all_filter : (p q : ℕ → Bool) (xs : List ℕ) → list_all p xs ≡ true → list_all p (filter q xs) ≡ true
 all_filter p q [] h = refl
-all_filter p q (x ∷ xs) h = by (q x)
+all_filter p q (x ∷ xs) h =
+    let parts = and_parts (p x) (list_all p xs) h in
+    by (q x) parts.0 (all_filter p q xs parts.1)
   where
-    parts : (p x ≡ true) × (list_all p xs ≡ true)
-    parts = and_parts (p x) (list_all p xs) h
-    by : (b : Bool) → list_all p (if b then x ∷ filter q xs else filter q xs) ≡ true
-    by true = both (p x) (list_all p (filter q xs)) parts.0 (all_filter p q xs parts.1)
-    by false = all_filter p q xs parts.1
+    by : (b : Bool) → p x ≡ true → list_all p (filter q xs) ≡ true → list_all p (if b then x ∷ filter q xs else filter q xs) ≡ true
+    by true own rest = both (p x) (list_all p (filter q xs)) own rest
+    by false own rest = rest
 
 all_append : (p : ℕ → Bool) (xs ys : List ℕ) → list_all p xs ≡ true → list_all p ys ≡ true → list_all p (xs ++ ys) ≡ true
 all_append p [] ys h g = g
@@ -98,7 +98,7 @@ after_short n released (Some a) h = unreleased_short released a.plan.after (rest
 pub few_rows : (n : ℕ) (e : Editing) (d : Decided) → is_short_editing n e ≡ true → length (left_rows e d) ≤ 256
 few_rows n e d h =
     let parts = and_parts (is_short_attempt n e.attempt) (list_all is_row_number e.marked) h in
-    let rows = few_rising 0 (left_rows e d) (all_rise _
+    let rows = few_rising 0 (left_rows e d) (all_rise (filter (λ row. not (names_row d row)) e.marked ++ unreleased d.released (after_of e.attempt))
     (all_append is_row_number (filter (λ row. not (names_row d row)) e.marked) (unreleased d.released (after_of e.attempt))
     (all_filter is_row_number (λ row. not (names_row d row)) e.marked parts.1)
     (after_short n d.released e.attempt parts.0))) in

@@ -1,5 +1,5 @@
 -- The answer that is due: to an operation that has begun, and of few bytes.
-use Rattle.std.proofs.Common.{◌≡◌, ◌≤◌, ℕ, Bool, true, false, if◌then◌else◌, Option, Some, None, is_some, option_map, refl, sym, subst, true≢false, lit≤}
+use Rattle.std.proofs.Common.{◌≡◌, ◌≤◌, ◌<◌, ◌∙◌, ℕ, Bool, true, false, if◌then◌else◌, Option, Some, None, is_some, option_map, refl, sym, subst, true≢false, lit≤}
 use Rattle.apdu.specs.Values.{CommandValue}
 use Rattle.apdu.specs.Words.{or_else}
 use Rattle.card_model.specs.declared.world.WorldEvent.{WorldEvent}
@@ -103,7 +103,7 @@ refusal_holds plan_error.Memory = refl
 
 -- an answer that gives nothing to hold
 plain : (came : Bool) (x : Answer) → most_of_answer x ≤ 608 → is_holding x ≡ false → IsGiven came x
-plain came x short no = record { short = short; holds = λ h. absurd (true≢false (sym h ∙ no)) }
+plain came x short free = record { short = short; holds = λ h. absurd (true≢false (sym h ∙ free)) }
 
 came_given : (o : Outcome) → IsGiven true (answer_of_outcome o)
 came_given (outcome.Status sw n) = record { short = lit≤ tt; holds = λ h. refl }

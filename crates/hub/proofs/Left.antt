@@ -24,6 +24,7 @@ use Rattle.rules.specs.declared.kept.Begun.{Begun}
 use Rattle.rules.specs.declared.kept.Decision.{Decision}
 use Rattle.rules.specs.declared.kept.Job.{Job}
 use Rattle.rules.specs.declared.kept.Kept.{Kept}
+use Rattle.rules.specs.declared.kept.Work.TheVariants.{Rests as rests}
 use Rattle.rules.specs.Kept.{begun_of, first_job, job_of, operation_at, operation_now}
 use Rattle.rules.specs.History.{is_event, lives_in}
 use Rattle.rules.specs.After.{begun_beside, begun_with, decision_at, decision_of_begun, facts_of, fresh_begun, is_mark, job_beside, kept_after, own_job}
@@ -49,7 +50,7 @@ Fits : Option (List ℕ) → Option (List ℕ) → Type 0
 Fits ready value = IfSome ready (λ rows. IfSome value (λ left. rows ≡ left))
 
 ready_fits : (o : Option Begun) (ready : Option (List ℕ)) → AreLeft o ready → Fits ready (left_value o)
-unfolding left_value, Fits
+unfolding left_value Fits
 ready_fits None None h = tt
 ready_fits None (Some rows) h = tt
 ready_fits (Some b) None h = tt
@@ -60,7 +61,7 @@ ready_fits (Some b) (Some rows) h = by b.editing.decided h
     by (Some d) g = g
 
 fits_ready : (o : Option Begun) (ready : Option (List ℕ)) → Fits ready (left_value o) → AreLeft o ready
-unfolding left_value, Fits
+unfolding left_value Fits
 fits_ready None ready h = tt
 fits_ready (Some b) None h = tt
 fits_ready (Some b) (Some rows) h = by b.editing.decided h
@@ -130,7 +131,7 @@ fresh_value (Some a) b e = ap (option_map (left_rows (with_attempt (Some a) b.ed
 
 module _ (s : Script) (k : Kept) (i : ℕ) (x : Job) where
   quiet_job : (l : Line) → is_event l ≡ false → is_mark l ≡ false → (own : Bool) → Same x.begun (let j : Job = (if own then own_job s l k (facts_of s l k) (decision_at s l k).attempt (job_beside l k.history.epoch (facts_of s l k) k.selected x) else job_beside l k.history.epoch (facts_of s l k) k.selected x) in j).begun
-  unfolding Same, quiet_touch
+  unfolding Same quiet_touch left_value
   quiet_job (line.Turn a) e m own = absurd (true≢false m)
   quiet_job (line.Begin a n) e m true = inr (fresh_value (decision_at s (line.Begin a n) k).attempt (fresh_begun n k.history) refl)
   quiet_job (line.Begin a n) e m false = inl (beside_value (line.Begin a n) s k x.begun refl)
@@ -153,7 +154,7 @@ module _ (s : Script) (k : Kept) (i : ℕ) (x : Job) where
 
 -- ---- a mark
 
-decided_work_of : (k : Kept) (a : ℕ) (b : Begun) (f : ℕ) (ed : Edit) (lives : Bool) (d : Option Decided) → is_some d ≡ true → b.editing.decided ≡ d → (let r : Decision = elim lives [ true ↦ edit_work k a f ed b.editing | false ↦ decides _ ] in r).attempt ≡ None
+decided_work_of : (k : Kept) (a : ℕ) (b : Begun) (f : ℕ) (ed : Edit) (lives : Bool) (d : Option Decided) → is_some d ≡ true → b.editing.decided ≡ d → (let r : Decision = elim lives [ true ↦ edit_work k a f ed b.editing | false ↦ decides rests ] in r).attempt ≡ None
 decided_work_of k a b f ed false d some e = refl
 decided_work_of k a b f ed true None some e = absurd (true≢false (sym some))
 decided_work_of k a b f ed true (Some d) some e = by b.editing.decided e
@@ -184,7 +185,7 @@ decides_none k a b None h = refl
 decides_none k a b (Some op) h = no_attempt k a b op h
 
 marked_value : (att : Option Attempt) (o : Option Begun) → ((b : Begun) → o ≡ Some b → is_some b.editing.decided ≡ true → att ≡ None) → Same o (option_map (begun_with att) o)
-unfolding Same, left_value
+unfolding Same left_value
 marked_value att None h = inl refl
 marked_value att (Some b) h = by b.editing.decided refl
   where
@@ -211,7 +212,7 @@ module _ (s : Script) (k : Kept) (a : ℕ) where
       ∙ decides_none k (suc i) c (operation_now s (suc i) k.jobs) (beside_decided (line.Turn (suc i)) s k (Some c) b e h c refl)
 
   mark_job : (n : ℕ) (x : Job) → (n ≡ a → begun_of a k.jobs ≡ x.begun) → (own : Bool) → (own ≡ true → n ≡ a) → Same x.begun (let j : Job = (if own then own_job s (line.Turn n) k (facts_of s (line.Turn n) k) (decision_at s (line.Turn n) k).attempt (job_beside (line.Turn n) k.history.epoch (facts_of s (line.Turn n) k) k.selected x) else job_beside (line.Turn n) k.history.epoch (facts_of s (line.Turn n) k) k.selected x) in j).begun
-  unfolding Same, quiet_touch
+  unfolding Same quiet_touch
   mark_job n x here false own = inl (beside_value (line.Turn n) s k x.begun refl)
   mark_job zero x here true own = inl (beside_value (line.Turn zero) s k x.begun refl)
   mark_job (suc n) x here true own =

@@ -1,5 +1,5 @@
 -- What the beginning of a turn, and of an operation, decides.
-use Rattle.std.specs.Prelude.{◌≡◌, ℕ, true, Option, Some, None, ⊤, ⊥}
+use Rattle.std.specs.Prelude.{◌≡◌, ℕ, true, Option, Some, None, ⊤}
 use Rattle.script_reader.specs.declared.types.Script.{Script}
 use Rattle.report.specs.declared.line.Line.{Line}
 use Rattle.report.specs.declared.line.Line.TheVariants as line
