@@ -140,6 +140,7 @@ lost_short n (Some (f, ed)) selected event c e h = by (is_update_ins c.ins)
     at : (b : Bool) → Short n (let x : Editing = (if b then record e { lost = Some event } else e) in x)
     at true = record { attempt = h.attempt; marked = h.marked }
     at false = h
+
     by : (b : Bool) → Short n (let x : Editing = (if b then lost_update f selected event e else e) in x)
     by true = at (is_at selected (family_path f 0))
     by false = h

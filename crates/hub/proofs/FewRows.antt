@@ -47,6 +47,7 @@ row_rises low r (x ∷ xs) first byte h = by (r == x) (nat_lt r x) refl refl (λ
         let low2 = ltb-false r x less in
         let at : r ≡ x = omega arith in
         absurd (true≢false (sym (eq-eqb r x at) ∙ same))
+
     by : (same less : Bool) → (r == x) ≡ same → nat_lt r x ≡ less → (x + 1 ≤ r → Rising (x + 1) (with_row r xs)) → Rising low (if same then x ∷ xs else if less then r ∷ x ∷ xs else x ∷ with_row r xs)
     by true less g e rest = h
     by false true g e rest = let below = ltb-true r x e in (first, byte, (omega arith, h.1, h.2))

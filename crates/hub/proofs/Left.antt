@@ -229,8 +229,10 @@ begun_at s l k i each = by (slice_get k.jobs i) refl
   where
     job_is : (o : Option Job) → slice_get k.jobs i ≡ o → job_of i (kept_after s l k).jobs ≡ unwrap_or (option_map (behind_job s l k i) o) first_job
     job_is o e = ap (λ (p : Option Job). unwrap_or p first_job) (job_behind s l k i ∙ ap (option_map (behind_job s l k i)) e)
+
     moved : (x y : Option Begun) (p q : Option Begun) → x ≡ p → y ≡ q → Same p q → Same x y
     moved x y p q e f h = subst (λ z. Same z y) (sym e) (subst (λ z. Same p z) (sym f) h)
+
     by : (o : Option Job) → slice_get k.jobs i ≡ o → Same (begun_of i k.jobs) (begun_of i (kept_after s l k).jobs)
     by None e = moved _ _ None None (ap (λ (p : Option Job). (unwrap_or p first_job).begun) e) (ap (λ (j : Job). j.begun) (job_is None e)) (inl refl)
     by (Some x) e = moved _ _ x.begun (behind_job s l k i x).begun (ap (λ (p : Option Job). (unwrap_or p first_job).begun) e) (ap (λ (j : Job). j.begun) (job_is (Some x) e)) (each x e)
@@ -287,11 +289,14 @@ answered_over s k (line.Answered b i given) a actor n f = over (b == a) refl
   where
     turn : k.turn.actor ≡ Some b
     turn = same_actor k.turn.actor b (and_parts (is_turn_of b k.turn) _ f).0
+
     at : b ≡ a
     at = some_number b a (sym turn ∙ actor)
+
     by : (o : Option Job) → (b == a) ≡ true → (unwrap_or (option_map (λ (x : Job). let j : Job = (if b == a then own_job s (line.Answered b i given) k (facts_of s (line.Answered b i given) k) (decision_at s (line.Answered b i given) k).attempt (job_beside (line.Answered b i given) k.history.epoch (facts_of s (line.Answered b i given) k) k.selected x) else job_beside (line.Answered b i given) k.history.epoch (facts_of s (line.Answered b i given) k) k.selected x) in j) o) first_job).begun ≡ None
     by None e = refl
     by (Some x) e = ap (λ (own : Bool). (let j : Job = (if own then own_job s (line.Answered b i given) k (facts_of s (line.Answered b i given) k) (decision_at s (line.Answered b i given) k).attempt (job_beside (line.Answered b i given) k.history.epoch (facts_of s (line.Answered b i given) k) k.selected x) else job_beside (line.Answered b i given) k.history.epoch (facts_of s (line.Answered b i given) k) k.selected x) in j).begun) e
+
     over : (e : Bool) → (b == a) ≡ e → begun_of a (kept_after s (line.Answered b i given) k).jobs ≡ None
     over true e = ap (λ (p : Option Job). (unwrap_or p first_job).begun) (job_behind s (line.Answered b i given) k a) ∙ by (slice_get k.jobs a) e
     over false e = absurd (true≢false (sym (eq-eqb b a at) ∙ e))

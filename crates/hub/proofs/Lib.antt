@@ -16,4 +16,5 @@ pub mod DueSoFar
 pub mod Idle
 pub mod Calm
 pub mod Steps
+pub mod Loop
 pub mod Taken

@@ -138,6 +138,25 @@ line_actor s (line.EpochEnd n e v) k m = refl
 line_actor s (line.Refused f n) k m = refl
 line_actor s (line.Answered a i given) k m = refl
 
+-- ---- behind a line of its own a turn is not bare
+
+led_filled : (op : Option Operation) (job : Job) (held : List ℕ) (facts : Facts) (refused : Option RefusedReading) (t : Turn) (o : Option Final) → facts.answered ≡ o → (turn_exchanged op job held facts refused t).bare ≡ false
+led_filled op job held facts refused t None e = rw e refl
+led_filled op job held facts refused t (Some f) e = rw e refl
+
+pub line_filled : (s : Script) (l : Line) (k : Kept) → is_mark l ≡ false → (kept_after s l k).turn.bare ≡ false
+line_filled s (line.Turn a) k m = absurd (true≢false m)
+line_filled s (line.Begin a i) k m = refl
+line_filled s (line.Exchange a c r) k m = led_filled _ _ _ (facts_of s (line.Exchange a c r) k) _ k.turn (facts_of s (line.Exchange a c r) k).answered refl
+line_filled s (line.Failed a c d) k m = refl
+line_filled s (line.Reset a) k m = refl
+line_filled s (line.ResetFailed a) k m = refl
+line_filled s (line.World a e) k m = refl
+line_filled s (line.Published n f e v text) k m = refl
+line_filled s (line.EpochEnd n e v) k m = refl
+line_filled s (line.Refused f n) k m = refl
+line_filled s (line.Answered a i given) k m = refl
+
 pub unmarked : (b : Bool) → not b ≡ true → b ≡ false
 unmarked true h = absurd (true≢false (sym h))
 unmarked false h = refl

@@ -19,8 +19,8 @@ use crate::publish::{answered_of, family_ready};
 use apdu::{Memory, Text};
 use card_model::ScriptedSlot;
 use planner::{
-    LeftRows, begun_of, decision_at_begin, decision_at_turn, due_with, has_ended, is_finished, left_rows,
-    waits_on,
+    LeftRows, begun_of, decision_at_begin, decision_at_turn, due_with, has_ended, is_finished,
+    left_rows, waits_on,
 };
 use report::Line;
 use rules::{Decision, Due};
@@ -94,8 +94,7 @@ impl<S: ScriptedSlot> Engine<S> {
             return Ok(None);
         }
         let op = answered_of(actor, kept);
-        let decision =
-            decision_at_begin(self.alloc, &FilePlans, &self.script, kept, actor, op)?;
+        let decision = decision_at_begin(self.alloc, &FilePlans, &self.script, kept, actor, op)?;
         Ok(Some(decision))
     }
 
