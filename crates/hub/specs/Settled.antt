@@ -1,5 +1,5 @@
 -- What ties the parts of a hub to its lines.
-use Rattle.std.specs.Prelude.{◌≡◌, ◌<◌, ◌≤◌, ◌⊎◌, ◌++◌, ℕ, ◌+◌, ◌*◌, ◌^◌, true, false, List, ◌∷◌, length, Option, Some, None, option_map, is_some, IfSome}
+use Rattle.std.specs.Prelude.{◌≡◌, ◌<◌, ◌≤◌, ◌⊎◌, ◌++◌, ℕ, ◌+◌, ◌*◌, ◌^◌, true, false, nat_lt, if◌then◌else◌, ⊤, List, ◌∷◌, length, Option, Some, None, option_map, is_some, IfSome}
 use Rattle.card_model.specs.declared.world.World.{World}
 use Rattle.card_model.specs.Slot.{Plan, StaysTold}
 use Rattle.script_reader.specs.declared.types.Script.{Script}
@@ -10,6 +10,8 @@ use Rattle.report.specs.declared.line.Line.TheVariants as line
 use Rattle.rules.specs.declared.kept.Kept.{Kept}
 use Rattle.rules.specs.Kept.{begun_of}
 use Rattle.rules.specs.After.{is_mark, kept_of}
+use Rattle.rules.specs.declared.due.Due.{Due}
+use Rattle.rules.specs.declared.due.Due.TheVariants.{Publish as publish}
 use Rattle.rules.specs.Due.{due, kept_text}
 use Rattle.rules.specs.Work.{is_idle}
 use Rattle.rules.specs.State.{world_of}
@@ -144,6 +146,17 @@ pub record MayPublish (events f : ℕ) (ready : Option (List ℕ)) (p : Parts) :
 -- the bytes that a text took were made ready for it, or there is room for a whole turn beside it
 abbrev pub LeavesRoom : ℕ → ℕ → ℕ → ℕ → Type 0
 LeavesRoom beside ready old new = (old + beside ≤ new + ready) ⊎ (59008 + beside ≤ new)
+
+-- where the line is a publication, it may be made
+abbrev pub MayDo : ℕ → Due → Option (List ℕ) → Parts → Type 0
+MayDo events (publish f) text p = MayPublish events f text p
+MayDo events l text p = ⊤
+
+-- what is ready for the line behind: the same text, unless an event came since there were so many, or none behind a publication
+abbrev pub IsNext : ℕ → Option (List ℕ) → Option (List ℕ) → Parts → Parts → Type 0
+IsNext events text next old new =
+    ((next ≡ (if nat_lt events new.kept.history.events then None else text)) × (old.lines.spare_bytes ≤ new.lines.spare_bytes + 608))
+    ⊎ ((next ≡ None) × (is_some new.kept.turn.published ≡ true) × LeavesRoom 0 (most_of_text text) old.lines.spare_bytes new.lines.spare_bytes)
 
 -- the text is what was made ready before the turn while no event of the turn came; it is used once
 abbrev pub IsReady : ℕ → Script → Kept → Kept → Option (List ℕ) → Type 0

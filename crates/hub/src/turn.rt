@@ -11,8 +11,8 @@ ghost use Rattle.rules.specs.Performed as performed;
 ghost use Rattle.rules.specs.Work.{is_finished as is_run_finished, is_idle};
 ghost use Rattle.hub.specs.Hub as hub;
 ghost use Rattle.hub.specs.Parts.{parts};
-ghost use Rattle.hub.specs.Decided.{IsDecision, MayBegin};
-ghost use Rattle.hub.specs.Settled.{IsReadyFor, HasBroken, HasLine, HasTurned, IsPrepared, IsSettled, IsTied, KeepsAll};
+ghost use Rattle.hub.specs.Decided.{IsBegun, IsDecision, MayBegin};
+ghost use Rattle.hub.specs.Settled.{BreaksBehind, HasOneMore, IsNext, IsReadyFor, IsSince, IsUnderWay, MayDo, HasBroken, HasLine, HasTurned, IsPrepared, IsSettled, IsTied, KeepsAll};
 
 use crate::engine::{BYTES_OF_PUBLICATION, BYTES_OF_TURN, Engine, FilePlans, LINES_OF_TURN, Ready};
 use crate::publish::{answered_of, family_ready};
@@ -232,6 +232,40 @@ impl<S: ScriptedSlot> Engine<S> {
         }
     }
 
+    /// The line that is due, in a turn that began at so many events; gives the text that is ready for the next.
+    fn do_line(
+        &mut self,
+        actor: u8,
+        events: u64,
+        line: Due,
+        text: Option<Text>,
+        begin: Option<Decision>,
+    ) -> Result<Option<Text>, Memory>
+        requires turn { IsUnderWay actor (parts S.Slot.world S.Slot.plan self.old) }
+        requires since { IsSince events self.old.tracker }
+        requires due { rules.due self.old.script self.old.tracker ≡ line }
+        requires goes_on { performed.ends_turn line ≡ false }
+        requires begin { IsBegun self.old.script actor self.old.tracker line begin }
+        requires may { MayDo events line text (parts S.Slot.world S.Slot.plan self.old) }
+        ensures line { OnOk result (HasOneMore (parts S.Slot.world S.Slot.plan self.old)
+            (parts S.Slot.world S.Slot.plan self.new)) }
+        ensures text { IfOk result (λ next. IsNext events text next
+            (parts S.Slot.world S.Slot.plan self.old) (parts S.Slot.world S.Slot.plan self.new)) }
+        ensures err { OnErr result (BreaksBehind events
+            (parts S.Slot.world S.Slot.plan self.old) (parts S.Slot.world S.Slot.plan self.new)) }
+    {
+        match line {
+            Due::Publish(family) => {
+                self.publish(actor, events, family, text)?;
+                Ok(None)
+            }
+            line => {
+                self.perform(actor, events, line, begin)?;
+                Ok(self.unless_moved(events, text))
+            }
+        }
+    }
+
     /// A turn of the actor: its mark, and what is due in it.
     pub fn take_turn(&mut self, actor: u8, ready: Ready) -> Result<(), Memory>
         requires settled { IsSettled (parts S.Slot.world S.Slot.plan self.old) }
@@ -259,16 +293,8 @@ impl<S: ScriptedSlot> Engine<S> {
             if ends_turn(&line) {
                 return Ok(());
             }
-            match line {
-                Due::Publish(family) => {
-                    self.publish(actor, events, family, text)?;
-                    text = None;
-                }
-                line => {
-                    self.perform(actor, events, line, begin)?;
-                    text = self.unless_moved(events, text);
-                }
-            }
+            let next = self.do_line(actor, events, line, text, begin)?;
+            text = next;
             begin = None;
             left.ready = self.unless_moved(events, left.ready.take());
         }
