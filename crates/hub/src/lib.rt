@@ -6,7 +6,9 @@ mod engine;
 mod hub;
 mod perform;
 mod publish;
+mod served;
 mod turn;
 
 pub use hub::Hub;
+pub use served::serves;
 pub use turn::Turn;

@@ -2,7 +2,6 @@
 #![tactic(auto)]
 
 mod replay;
-mod served;
 mod text;
 mod top;
 

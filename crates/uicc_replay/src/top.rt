@@ -6,9 +6,9 @@ ghost use Rattle.script_reader.specs.Rules.{keeps_rules};
 ghost use Rattle.uicc_replay.specs.Top.{is_replay, line_of, is_status, script_limit, IsDue, IsDueOfBytes, IsDueOfScript, IsDueOfReport, IsDueOfBudget, IsDueOfLine, IsRefused, IsReplayed, IsBudgetSpent, WritesPart, Writes, Ends};
 
 use crate::replay::{Replayed, replay};
-use crate::served::serves;
 use crate::text::{budget_text, refused_text};
 use apdu::{Bytes, Memory, Sink, Source, Text};
+use hub::serves;
 use report::{Report, write_report};
 use script::{Script, ScriptError, read_script};
 use std::alloc::Global;

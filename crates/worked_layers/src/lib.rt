@@ -11,6 +11,8 @@ mod loads;
 #[cfg(test)]
 mod planned;
 #[cfg(test)]
+mod plans;
+#[cfg(test)]
 mod reports;
 #[cfg(test)]
 mod shown;

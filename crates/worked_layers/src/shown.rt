@@ -53,7 +53,7 @@ fn push_row(file: &mut Rows, row: &[u8]) -> Result<(), Fail> {
 }
 
 /// A linear file of these rows in hexadecimal, each as wide as the first.
-fn linear(alloc: Global, rows: &str) -> Result<Rows, Fail> {
+pub fn linear(alloc: Global, rows: &str) -> Result<Rows, Fail> {
     let (first, _) = rows.split_once(',').unwrap_or((rows, ""));
     let width = first.len() / 2;
     if width > 255 {

@@ -1,4 +1,4 @@
-// The scripts that are served so far.
+// The scripts that a hub serves so far.
 ghost use Rattle.std.specs.Prelude.{◌≡◌};
 ghost use Rattle.std.specs.List.{list_all};
 ghost use Rattle.performed.specs.Served.{is_served, serves};
@@ -33,7 +33,7 @@ fn are_actors_served(actors: &ActorSpecs) -> bool
     actors.as_slice().iter().all(are_served)
 }
 
-/// Whether a script is served: its actors insert cards, load and look, open channels, send commands on them and close
+/// Whether a hub serves a script: its actors insert cards, load and look, open channels, send commands on them and close
 /// them, begin and end sessions of PINs, and no call fails.
 pub fn serves(script: &Script) -> bool
     ensures { result ≡ serves script.now }

@@ -1,0 +1,8 @@
+//! Worked calls of a hub, of a channel table and of a PIN session, over a slot in memory that tells nothing. They stand above those crates,
+//! which are proved once.
+#![tactic(auto)]
+
+#[cfg(test)]
+mod nodding;
+#[cfg(test)]
+mod sent;
