@@ -1,5 +1,5 @@
 -- Lines that leave the current files as they are.
-use Rattle.std.proofs.Common.{◌≡◌, ℕ, List, sym, ap, ◌∙◌, subst, refl}
+use Rattle.std.proofs.Common.{◌≡◌, ℕ, true, List, Result, Ok, Err, OnOk, OnErr, sym, ap, ◌∙◌, subst, refl, true≢false}
 use Rattle.card_model.specs.declared.world.WorldEvent.TheVariants as world_event
 use Rattle.epoch_cache.specs.declared.cached.CachedFile.{CachedFile}
 use Rattle.epoch_cache.proofs.Listed.{forgotten_nothing}
@@ -9,6 +9,7 @@ use Rattle.report.specs.declared.line.Line.{Line}
 use Rattle.report.specs.declared.line.Line.TheVariants as line
 use Rattle.rules.specs.declared.kept.Kept.{Kept}
 use Rattle.rules.specs.After.{facts_of, kept_after}
+use Rattle.tracker.specs.Lines.{is_answered, is_published}
 use Rattle.content_tracker.specs.declared.contents.Contents.{Contents}
 use Rattle.content_tracker.specs.Contents.{AreOf}
 
@@ -37,3 +38,34 @@ module _ (s : Script) (k now : Kept) (c : Contents) (h : AreOf k.files c) where
 
   pub behind_arm : (a i : ℕ) → now ≡ kept_after s (line.World a (world_event.Arm i)) k → AreOf now.files c
   behind_arm a i is = kept_on now k.files c (ap (λ (x : Kept). x.files) is ∙ forgotten_nothing (facts_of s (line.World a (world_event.Arm i)) k).touch k.files refl refl) h
+
+  pub published_line : (l : Line) → is_published l ≡ true → now ≡ kept_after s l k → AreOf now.files c
+  published_line (line.Published n f e p text) kind is = behind_published n f e p text is
+  published_line (line.Turn a) kind is = absurd (true≢false (sym kind))
+  published_line (line.Begin a i) kind is = absurd (true≢false (sym kind))
+  published_line (line.Exchange a x r) kind is = absurd (true≢false (sym kind))
+  published_line (line.Failed a x d) kind is = absurd (true≢false (sym kind))
+  published_line (line.Reset a) kind is = absurd (true≢false (sym kind))
+  published_line (line.ResetFailed a) kind is = absurd (true≢false (sym kind))
+  published_line (line.World a e) kind is = absurd (true≢false (sym kind))
+  published_line (line.EpochEnd n e p) kind is = absurd (true≢false (sym kind))
+  published_line (line.Refused f n) kind is = absurd (true≢false (sym kind))
+  published_line (line.Answered a i given) kind is = absurd (true≢false (sym kind))
+
+  pub answered_line : (l : Line) → is_answered l ≡ true → now ≡ kept_after s l k → AreOf now.files c
+  answered_line (line.Answered a i given) kind is = behind_answer a i given is
+  answered_line (line.Turn a) kind is = absurd (true≢false (sym kind))
+  answered_line (line.Begin a i) kind is = absurd (true≢false (sym kind))
+  answered_line (line.Exchange a x r) kind is = absurd (true≢false (sym kind))
+  answered_line (line.Failed a x d) kind is = absurd (true≢false (sym kind))
+  answered_line (line.Reset a) kind is = absurd (true≢false (sym kind))
+  answered_line (line.ResetFailed a) kind is = absurd (true≢false (sym kind))
+  answered_line (line.World a e) kind is = absurd (true≢false (sym kind))
+  answered_line (line.Published n f e p text) kind is = absurd (true≢false (sym kind))
+  answered_line (line.EpochEnd n e p) kind is = absurd (true≢false (sym kind))
+  answered_line (line.Refused f n) kind is = absurd (true≢false (sym kind))
+
+  -- whether there was memory or not
+  pub answered_either : {T E : Type 0} (r : Result T E) (l : Line) → is_answered l ≡ true → OnOk r (now ≡ kept_after s l k) → OnErr r (now ≡ k) → AreOf now.files c
+  answered_either (Ok x) l kind ok err = answered_line l kind ok
+  answered_either (Err e) l kind ok err = kept_on now k.files c (ap (λ (x : Kept). x.files) err) h
