@@ -61,7 +61,7 @@ left_in_turn a k ready actor rows = subst (λ (o : Option ℕ). AreLeftInTurn o 
 
 no_ok : {T E : Type 0} (r : Result T E) (e : E) → r ≡ Err e → IsOk r → ⊥
 no_ok (Ok y) e h g = absurd (cc)
-no_ok (Err y) e h g = g
+no_ok (Err y) e h g = absurd (true≢false (sym g))
 
 -- where memory ran out, an event came
 pub moved_on : {E : Type 0} (a events : ℕ) (k : Kept) (ready : Option (List ℕ)) (r : Result Due E) (e : E) → k.turn.actor ≡ Some a → HasLeft a events ready k → r ≡ Err e → (is_some ready ≡ true → IsOk r) → (turn_is_decided k.turn.actor k.jobs ≡ false → IsOk r) → events < k.history.events
