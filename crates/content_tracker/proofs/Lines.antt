@@ -1,5 +1,6 @@
 -- Lines that leave the current files as they are.
 use Rattle.std.proofs.Common.{◌≡◌, ℕ, true, List, Result, Ok, Err, OnOk, OnErr, sym, ap, ◌∙◌, subst, refl, true≢false}
+use Rattle.card_model.specs.declared.world.WorldEvent.{WorldEvent}
 use Rattle.card_model.specs.declared.world.WorldEvent.TheVariants as world_event
 use Rattle.epoch_cache.specs.declared.cached.CachedFile.{CachedFile}
 use Rattle.epoch_cache.proofs.Listed.{forgotten_nothing}
@@ -11,7 +12,7 @@ use Rattle.rules.specs.declared.kept.Kept.{Kept}
 use Rattle.rules.specs.After.{facts_of, kept_after}
 use Rattle.tracker.specs.Lines.{is_answered, is_published}
 use Rattle.content_tracker.specs.declared.contents.Contents.{Contents}
-use Rattle.content_tracker.specs.Contents.{AreOf}
+use Rattle.content_tracker.specs.Contents.{AreOf, behind_event}
 
 -- the contents stay those of the current files
 kept_on : (now : Kept) (files : List CachedFile) (c : Contents) → now.files ≡ files → AreOf files c → AreOf now.files c
@@ -36,8 +37,13 @@ module _ (s : Script) (k now : Kept) (c : Contents) (h : AreOf k.files c) where
   pub behind_answer : (a i : ℕ) (given : Answer) → now ≡ kept_after s (line.Answered a i given) k → AreOf now.files c
   behind_answer a i given is = kept_on now k.files c (ap (λ (x : Kept). x.files) is ∙ forgotten_nothing (facts_of s (line.Answered a i given) k).touch k.files refl refl) h
 
-  pub behind_arm : (a i : ℕ) → now ≡ kept_after s (line.World a (world_event.Arm i)) k → AreOf now.files c
+  behind_arm : (a i : ℕ) → now ≡ kept_after s (line.World a (world_event.Arm i)) k → AreOf now.files c
   behind_arm a i is = kept_on now k.files c (ap (λ (x : Kept). x.files) is ∙ forgotten_nothing (facts_of s (line.World a (world_event.Arm i)) k).touch k.files refl refl) h
+
+  pub behind_world : (a : ℕ) (event : WorldEvent) → now ≡ kept_after s (line.World a event) k → AreOf now.files (behind_event event c)
+  behind_world a (world_event.Arm i) is = behind_arm a i is
+  behind_world a world_event.Out is = record { records = tt; phonebook = tt; fixed = tt }
+  behind_world a (world_event.Insert j) is = record { records = tt; phonebook = tt; fixed = tt }
 
   pub published_line : (l : Line) → is_published l ≡ true → now ≡ kept_after s l k → AreOf now.files c
   published_line (line.Published n f e p text) kind is = behind_published n f e p text is

@@ -1,5 +1,5 @@
 -- What the files of a family hold, by two views of them.
-use Rattle.std.proofs.Common.{◌≡◌, ◌<◌, ℕ, zero, suc, true, List, Option, Some, None, unwrap_or, option_map, refl, sym, ap, ◌∙◌, arith}
+use Rattle.std.proofs.Common.{◌≡◌, ◌<◌, ℕ, zero, suc, true, List, Option, Some, None, unwrap_or, option_map, refl, sym, ap, subst, ◌∙◌, arith, IfOk, Result}
 use Rattle.fcp.specs.Content.{Content, missing}
 use Rattle.families.specs.declared.content.StandardContent.{StandardContent}
 use Rattle.families.specs.declared.content.StandardContent.TheVariants as content
@@ -66,3 +66,7 @@ was_current decode paths file row c files h = record {
   before = h.before; bytes = h.bytes; decoded = h.decoded;
   files = λ i within. current_view files (path_at paths i) ∙ h.files i within;
 }
+
+-- the text of a family, whose number is another name of it
+pub text_at : {E : Type 0} (g f : ℕ) (files : List CachedFile) (r : Result (List ℕ) E) → g ≡ f → IfOk r (λ text. text ≡ shown g (view_of_files files)) → IfOk r (λ text. text ≡ shown f (view_of_files files))
+text_at g f files r e h = subst (λ n. IfOk r (λ text. text ≡ shown n (view_of_files files))) e h

@@ -3,6 +3,8 @@ use Rattle.std.specs.Prelude.{◌≡◌, ℕ, ◌+◌, ◌-◌, ◌^◌, min, �
 use Rattle.apdu.specs.Words.{same_bytes}
 use Rattle.apdu.specs.Values.{CommandValue, ResponseValue}
 use Rattle.apdu.specs.Apdu.{fetch_ins, is_update_ins}
+use Rattle.card_model.specs.declared.world.WorldEvent.{WorldEvent}
+use Rattle.card_model.specs.declared.world.WorldEvent.TheVariants as world_event
 use Rattle.families.specs.declared.content.StandardContent.{StandardContent}
 use Rattle.families.specs.Contents.{decoded}
 use Rattle.families.specs.Families.{family_paths, has_path}
@@ -57,6 +59,14 @@ without_read path c = record { records = unless_in 0 path c.records; phonebook =
 -- by the command, or by the first form of its chain
 abbrev pub without_readings : Option (List ℕ) → CommandValue → Option Chain → Contents → Contents
 without_readings selected c chain contents = without_read (first_read selected chain) (without_read (path_read selected c) contents)
+
+-- ---- events of the world
+
+-- a change that is armed leaves the files as they are
+abbrev pub behind_event : WorldEvent → Contents → Contents
+behind_event (world_event.Arm i) c = c
+behind_event world_event.Out c = no_contents
+behind_event (world_event.Insert j) c = no_contents
 
 -- ---- rows that are written
 

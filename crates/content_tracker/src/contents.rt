@@ -9,6 +9,7 @@ ghost use Rattle.loader.specs.Reading as reading;
 ghost use Rattle.content_tracker.specs.Contents as spec;
 
 use apdu::{Command, Memory, Path, Text};
+use card_model::WorldEvent;
 use editor::has_path;
 use epoch_cache::CachedFiles;
 use families::{ContentText, Families, Standard, StandardContent};
@@ -204,5 +205,17 @@ pub fn without_readings(
             let named = named_path(&chain.first);
             without_read(path_read(selected, &chain.first, &named), contents)
         }
+    }
+}
+
+// ---- events of the world
+
+/// What is kept behind an event of the world: a change that is armed leaves all as it is.
+pub fn behind_event(event: WorldEvent, contents: Contents) -> Contents
+    ensures { result ≡ spec.behind_event event contents }
+{
+    match event {
+        WorldEvent::Arm(_) => contents,
+        WorldEvent::Out | WorldEvent::Insert(_) => Contents::new(),
     }
 }

@@ -1,5 +1,5 @@
 // What the current files of each family are decoded to behind a command that may have written them.
-ghost use Rattle.std.specs.Prelude.{◌≡◌, ◌<◌, ◌≤◌, Some, true, IfSome, length};
+ghost use Rattle.std.specs.Prelude.{◌≡◌, ◌<◌, ◌≤◌, Some, true, false, IfSome, length};
 ghost use Rattle.std.specs.Option.{option_copied};
 ghost use Rattle.epoch_cache.specs.Cache.{is_row_update, view_of_files};
 ghost use Rattle.families.specs.Contents as families;
@@ -34,7 +34,7 @@ fn is_row_update(command: &Command) -> bool
 }
 
 /// Whether the command may move or write files.
-pub fn may_write(command: &Command) -> bool
+fn may_write(command: &Command) -> bool
     ensures { result ≡ spec.may_write command.now }
 {
     matches!(command.ins, 0xD6 | 0xDC) || command.ins == 0x12
@@ -161,7 +161,7 @@ fn behind(
 }
 
 /// What is kept of each family behind a command that may have written its files.
-pub fn follow(
+fn follow(
     alloc: Global,
     row: Option<&WrittenRow>,
     files: &CachedFiles,
@@ -179,5 +179,25 @@ pub fn follow(
         records: behind(alloc, RECORDS, row, files, records),
         phonebook: behind(alloc, PHONEBOOK, row, files, phonebook),
         fixed: behind(alloc, FIXED, row, files, fixed),
+    }
+}
+
+/// What is kept of each family behind a command, whose own files were left out.
+pub fn behind_command(
+    alloc: Global,
+    command: &Command,
+    row: Option<&WrittenRow>,
+    files: &CachedFiles,
+    contents: Contents,
+) -> Contents
+    requires written { spec.may_write command.now ≡ true
+        → spec.AllFollow (option_copied row) contents files.now }
+    requires unwritten { spec.may_write command.now ≡ false → spec.AreOf files.now contents }
+    ensures { spec.AreOf files.now result }
+{
+    if may_write(command) {
+        follow(alloc, row, files, contents)
+    } else {
+        contents
     }
 }

@@ -10,8 +10,8 @@ ghost use Rattle.tracker.specs.Room.{HasRoom, line_fits};
 ghost use Rattle.content_tracker.specs.Contents as spec;
 
 use crate::Contents;
-use crate::contents::without_readings;
-use crate::follow::{follow, may_write, row_written};
+use crate::contents::{behind_event, without_readings};
+use crate::follow::{behind_command, row_written};
 use apdu::{Memory, Text};
 use card_model::WorldEvent;
 use report::Line;
@@ -117,28 +117,20 @@ impl ContentTracker {
         requires room { HasRoom self.old }
         ensures { OnOk result (self.new ≡ kept_after script.now line.now self.old) }
     {
-        let contents = mem::replace(&mut self.contents, Contents::new());
         let Line::Exchange {
             command, response, ..
         } = line
         else {
             return Err(Memory);
         };
+        let contents = mem::replace(&mut self.contents, Contents::new());
         let kept = self.tracker.kept();
         let selected = kept.selected.as_ref();
         let row = row_written(selected, command, response);
         let unread = without_readings(selected, command, kept.chain.as_ref(), contents);
         self.tracker.exchange(script, line)?;
-        self.contents = if may_write(command) {
-            follow(
-                self.alloc,
-                row.as_ref(),
-                &self.tracker.kept().files,
-                unread,
-            )
-        } else {
-            unread
-        };
+        let files = &self.tracker.kept().files;
+        self.contents = behind_command(self.alloc, command, row.as_ref(), files, unread);
         Ok(())
     }
 
@@ -175,9 +167,8 @@ impl ContentTracker {
         requires { HasRoom self.old }
         ensures { self.new ≡ kept_after script.now (Line.World actor event) self.old }
     {
-        if !matches!(event, WorldEvent::Arm(_)) {
-            self.contents = Contents::new();
-        }
+        let contents = mem::replace(&mut self.contents, Contents::new());
+        self.contents = behind_event(event, contents);
         self.tracker.happen(script, actor, event);
     }
 
