@@ -336,3 +336,23 @@ module _ (s : Script) (k : Kept) (a : ℕ) (c : CommandValue) (r : ResponseValue
         phonebook = still_by 1 (kept_of_family 1 contents.phonebook) (lit< tt) parts.0 parts.1 (still_of 1 contents.phonebook h.phonebook) (apart_kept 1 contents.phonebook);
         fixed = still_by 2 (kept_of_family 2 contents.fixed) (lit< tt) parts.0 parts.1 (still_of 2 contents.fixed h.fixed) (apart_kept 2 contents.fixed);
       }
+
+  -- ---- as a call finds them
+
+  pub unread_is : (selected : Option (List ℕ)) (chain : Option Chain) (before contents unread : Contents) → selected ≡ k.selected → chain ≡ k.chain → before ≡ contents
+      → unread ≡ without_readings selected c chain before → unread ≡ without_readings k.selected c k.chain contents
+  unread_is selected chain before contents unread es ec eb e =
+      e ∙ ap (λ o. without_readings o c chain before) es ∙ ap (λ o. without_readings k.selected c o before) ec ∙ ap (without_readings k.selected c k.chain) eb
+
+  pub call_follows : (now : Kept) (selected : Option (List ℕ)) (row : Option WrittenRow) (contents unread : Contents) → now ≡ kept_after s (Exchange a c r) k → selected ≡ k.selected
+      → row ≡ row_written selected c r → unread ≡ without_readings k.selected c k.chain contents → AreOf k.files contents → AllFollow row unread now.files
+  call_follows now selected row contents unread e es er eu h =
+      subst (λ (files : List CachedFile). AllFollow row unread files) (sym (ap (λ (x : Kept). x.files) e))
+      (subst (λ (x : Contents). AllFollow row x files_now) (sym eu)
+      (subst (λ (o : Option WrittenRow). AllFollow o (without_readings k.selected c k.chain contents) files_now) (sym (er ∙ ap (λ o. row_written o c r) es)) (all_follow contents h)))
+
+  pub call_stays : (now : Kept) (contents unread : Contents) → now ≡ kept_after s (Exchange a c r) k → unread ≡ without_readings k.selected c k.chain contents
+      → AreOf k.files contents → may_write c ≡ false → AreOf now.files unread
+  call_stays now contents unread e eu h quiet =
+      subst (λ (files : List CachedFile). AreOf files unread) (sym (ap (λ (x : Kept). x.files) e))
+      (subst (λ (x : Contents). AreOf files_now x) (sym eu) (all_still contents quiet h))
