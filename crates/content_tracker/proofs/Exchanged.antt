@@ -339,10 +339,9 @@ module _ (s : Script) (k : Kept) (a : ℕ) (c : CommandValue) (r : ResponseValue
 
   -- ---- as a call finds them
 
-  pub unread_is : (selected : Option (List ℕ)) (chain : Option Chain) (before contents unread : Contents) → selected ≡ k.selected → chain ≡ k.chain → before ≡ contents
-      → unread ≡ without_readings selected c chain before → unread ≡ without_readings k.selected c k.chain contents
-  unread_is selected chain before contents unread es ec eb e =
-      e ∙ ap (λ o. without_readings o c chain before) es ∙ ap (λ o. without_readings k.selected c o before) ec ∙ ap (without_readings k.selected c k.chain) eb
+  pub unread_is : (selected : Option (List ℕ)) (chain : Option Chain) (contents unread : Contents) → selected ≡ k.selected → chain ≡ k.chain
+      → unread ≡ without_readings selected c chain contents → unread ≡ without_readings k.selected c k.chain contents
+  unread_is selected chain contents unread es ec e = e ∙ ap (λ o. without_readings o c chain contents) es ∙ ap (λ o. without_readings k.selected c o contents) ec
 
   pub call_follows : (now : Kept) (selected : Option (List ℕ)) (row : Option WrittenRow) (contents unread : Contents) → now ≡ kept_after s (Exchange a c r) k → selected ≡ k.selected
       → row ≡ row_written selected c r → unread ≡ without_readings k.selected c k.chain contents → AreOf k.files contents → AllFollow row unread now.files

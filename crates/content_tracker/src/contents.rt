@@ -43,6 +43,13 @@ impl Contents {
         }
     }
 
+    /// Nothing is kept any more.
+    pub fn clear(&mut self)
+        ensures { self.new ≡ spec.no_contents }
+    {
+        *self = Contents::new();
+    }
+
     /// The text of a family, whose files are decoded where their content is not kept. `count` counts the decodings.
     pub fn text(
         &mut self,
@@ -151,71 +158,57 @@ fn path_read<'a>(
     }
 }
 
-/// What is kept of a family, unless it has a path that is read.
-fn unless_read(
-    family: u8,
-    read: Option<&Path>,
-    kept: Option<StandardContent>,
-) -> Option<StandardContent>
-    ensures { result ≡ spec.unless_in family (option_copied read.entry) kept }
+/// Forgets what is kept of a family, where it has the path that is read.
+fn leave_if_read(family: u8, read: Option<&Path>, kept: &mut Option<StandardContent>)
+    ensures { kept.new ≡ spec.unless_in family (option_copied read.entry) kept.old }
 {
     match read {
-        None => kept,
+        None => {}
         Some(path) => {
             if kept.is_some() && has_path(family, path) {
-                None
-            } else {
-                kept
+                *kept = None;
             }
         }
     }
 }
 
-/// Forgets the family of a path that is read.
-fn without_read(read: Option<&Path>, contents: Contents) -> Contents
-    ensures { result ≡ spec.without_read (option_copied read.entry) contents }
-{
-    let Contents {
-        records,
-        phonebook,
-        fixed,
-    } = contents;
-    Contents {
-        records: unless_read(RECORDS, read, records),
-        phonebook: unless_read(PHONEBOOK, read, phonebook),
-        fixed: unless_read(FIXED, read, fixed),
+impl Contents {
+    fn leave_read(&mut self, read: Option<&Path>)
+        ensures { self.new ≡ spec.without_read (option_copied read.entry) self.old }
+    {
+        leave_if_read(RECORDS, read, &mut self.records);
+        leave_if_read(PHONEBOOK, read, &mut self.phonebook);
+        leave_if_read(FIXED, read, &mut self.fixed);
     }
-}
 
-/// Forgets the family of the path that a command, or the first form of its chain, reads. `selected` is current on the basic channel.
-pub fn without_readings(
-    selected: Option<&Path>,
-    command: &Command,
-    chain: Option<&Chain>,
-    contents: Contents,
-) -> Contents
-    ensures { result ≡ spec.without_readings (option_copied selected.entry) command.now
-        (option_copied chain.entry) contents }
-{
-    let named = named_path(command);
-    let contents = without_read(path_read(selected, command, &named), contents);
-    match chain {
-        None => contents,
-        Some(chain) => {
-            let named = named_path(&chain.first);
-            without_read(path_read(selected, &chain.first, &named), contents)
+    /// Forgets the family of the path that a command, or the first form of its chain, reads. `selected` is current on the basic channel.
+    pub fn leave_readings(
+        &mut self,
+        selected: Option<&Path>,
+        command: &Command,
+        chain: Option<&Chain>,
+    )
+        ensures { self.new ≡ spec.without_readings (option_copied selected.entry) command.now
+            (option_copied chain.entry) self.old }
+    {
+        let named = named_path(command);
+        self.leave_read(path_read(selected, command, &named));
+        match chain {
+            None => {}
+            Some(chain) => {
+                let named = named_path(&chain.first);
+                self.leave_read(path_read(selected, &chain.first, &named));
+            }
         }
     }
-}
 
-// ---- events of the world
-
-/// What is kept behind an event of the world: a change that is armed leaves all as it is.
-pub fn behind_event(event: WorldEvent, contents: Contents) -> Contents
-    ensures { result ≡ spec.behind_event event contents }
-{
-    match event {
-        WorldEvent::Arm(_) => contents,
-        WorldEvent::Out | WorldEvent::Insert(_) => Contents::new(),
+    /// Forgets all, where an event of the world changes which card is read: a change that is armed leaves all as it is.
+    pub fn follow_event(&mut self, event: &WorldEvent)
+        ensures { self.new ≡ spec.behind_event event.now self.old }
+    {
+        match event {
+            WorldEvent::Arm(_) => {}
+            WorldEvent::Out | WorldEvent::Insert(_) => self.clear(),
+        }
     }
 }

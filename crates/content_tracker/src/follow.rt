@@ -160,44 +160,31 @@ fn behind(
     }
 }
 
-/// What is kept of each family behind a command that may have written its files.
-fn follow(
-    alloc: Global,
-    row: Option<&WrittenRow>,
-    files: &CachedFiles,
-    contents: Contents,
-) -> Contents
-    requires { spec.AllFollow (option_copied row) contents files.now }
-    ensures { spec.AreOf files.now result }
-{
-    let Contents {
-        records,
-        phonebook,
-        fixed,
-    } = contents;
-    Contents {
-        records: behind(alloc, RECORDS, row, files, records),
-        phonebook: behind(alloc, PHONEBOOK, row, files, phonebook),
-        fixed: behind(alloc, FIXED, row, files, fixed),
+impl Contents {
+    fn follow_row(&mut self, alloc: Global, row: Option<&WrittenRow>, files: &CachedFiles)
+        requires { spec.AllFollow (option_copied row) self.old files.now }
+        ensures { spec.AreOf files.now self.new }
+    {
+        self.records = behind(alloc, RECORDS, row, files, self.records.take());
+        self.phonebook = behind(alloc, PHONEBOOK, row, files, self.phonebook.take());
+        self.fixed = behind(alloc, FIXED, row, files, self.fixed.take());
     }
-}
 
-/// What is kept of each family behind a command, whose own files were left out.
-pub fn behind_command(
-    alloc: Global,
-    command: &Command,
-    row: Option<&WrittenRow>,
-    files: &CachedFiles,
-    contents: Contents,
-) -> Contents
-    requires written { spec.may_write command.now ≡ true
-        → spec.AllFollow (option_copied row) contents files.now }
-    requires unwritten { spec.may_write command.now ≡ false → spec.AreOf files.now contents }
-    ensures { spec.AreOf files.now result }
-{
-    if may_write(command) {
-        follow(alloc, row, files, contents)
-    } else {
-        contents
+    /// Makes what is kept of each family that of the files behind a command, which may have written a row.
+    pub fn follow_command(
+        &mut self,
+        alloc: Global,
+        command: &Command,
+        row: Option<&WrittenRow>,
+        files: &CachedFiles,
+    )
+        requires written { spec.may_write command.now ≡ true
+            → spec.AllFollow (option_copied row) self.old files.now }
+        requires unwritten { spec.may_write command.now ≡ false → spec.AreOf files.now self.old }
+        ensures { spec.AreOf files.now self.new }
+    {
+        if may_write(command) {
+            self.follow_row(alloc, row, files);
+        }
     }
 }

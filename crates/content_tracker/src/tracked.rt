@@ -10,8 +10,7 @@ ghost use Rattle.tracker.specs.Room.{HasRoom, line_fits};
 ghost use Rattle.content_tracker.specs.Contents as spec;
 
 use crate::Contents;
-use crate::contents::{behind_event, without_readings};
-use crate::follow::{behind_command, row_written};
+use crate::follow::row_written;
 use apdu::{Memory, Text};
 use card_model::WorldEvent;
 use report::Line;
@@ -19,7 +18,6 @@ use rules::{Decision, Kept};
 use script::Script;
 use std::alloc::Global;
 use std::marker::Model;
-use std::mem;
 use tracker::Tracker;
 
 /// What is kept of the lines of a report so far, as a `Tracker` keeps it; contracts see that. Beside it stands what the current files of each
@@ -121,17 +119,25 @@ impl ContentTracker {
             command, response, ..
         } = line
         else {
-            return Err(Memory);
+            unreachable!()
         };
-        let contents = mem::replace(&mut self.contents, Contents::new());
         let kept = self.tracker.kept();
         let selected = kept.selected.as_ref();
         let row = row_written(selected, command, response);
-        let unread = without_readings(selected, command, kept.chain.as_ref(), contents);
-        self.tracker.exchange(script, line)?;
-        let files = &self.tracker.kept().files;
-        self.contents = behind_command(self.alloc, command, row.as_ref(), files, unread);
-        Ok(())
+        self.contents
+            .leave_readings(selected, command, kept.chain.as_ref());
+        match self.tracker.exchange(script, line) {
+            Ok(()) => {
+                let files = &self.tracker.kept().files;
+                self.contents
+                    .follow_command(self.alloc, command, row.as_ref(), files);
+                Ok(())
+            }
+            Err(memory) => {
+                self.contents.clear();
+                Err(memory)
+            }
+        }
     }
 
     /// A command was sent, and no answer came.
@@ -140,7 +146,7 @@ impl ContentTracker {
         requires room { HasRoom self.old }
         ensures { self.new ≡ kept_after script.now line.now self.old }
     {
-        self.contents = Contents::new();
+        self.contents.clear();
         self.tracker.fail(script, line);
     }
 
@@ -149,7 +155,7 @@ impl ContentTracker {
         requires { HasRoom self.old }
         ensures { self.new ≡ kept_after script.now (Line.Reset actor) self.old }
     {
-        self.contents = Contents::new();
+        self.contents.clear();
         self.tracker.reset(script, actor);
     }
 
@@ -158,7 +164,7 @@ impl ContentTracker {
         requires { HasRoom self.old }
         ensures { self.new ≡ kept_after script.now (Line.ResetFailed actor) self.old }
     {
-        self.contents = Contents::new();
+        self.contents.clear();
         self.tracker.fail_reset(script, actor);
     }
 
@@ -167,8 +173,7 @@ impl ContentTracker {
         requires { HasRoom self.old }
         ensures { self.new ≡ kept_after script.now (Line.World actor event) self.old }
     {
-        let contents = mem::replace(&mut self.contents, Contents::new());
-        self.contents = behind_event(event, contents);
+        self.contents.follow_event(&event);
         self.tracker.happen(script, actor, event);
     }
 

@@ -6,5 +6,5 @@ use Rattle.content_tracker.proofs.tracked.ContentTracker.happen.Goals as goal
 
 pub invariant_of-self : goal.invariant_of-self
 invariant_of-self c =
-    subst (λ (x : Contents). AreOf c.happen.new.self.files x) (sym (c.behind_event.ensures ∙ ap (behind_event c.args.event) c.replace-contents.ensures.value))
+    subst (λ (x : Contents). AreOf c.happen.new.self.files x) (sym c.follow_event.ensures)
     (behind_world c.args.script.now c.self.inside.tracker _ c.self.inside.contents c.self.invariant c.args.actor c.args.event c.happen.ensures)
