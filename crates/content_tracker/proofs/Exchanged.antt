@@ -1,7 +1,6 @@
 -- What an exchange does to the files of a family whose content is kept.
-use Rattle.std.proofs.Common.{◌≡◌, ◌<◌, ◌⊎◌, inl, inr, ◌==◌, ◌&&◌, ◌||◌, not, ℕ, Bool, true, false, cond, List, [], ◌∷◌, ◌++◌, map, filter, find, Option, Some, None, IfSome, is_some, option_map, refl, sym, ap, subst, ◌∙◌, true≢false, lit<, ◌+◌, ◌-◌}
+use Rattle.std.proofs.Common.{◌≡◌, ◌<◌, ◌⊎◌, inl, inr, ◌==◌, ◌&&◌, ◌||◌, not, ℕ, Bool, true, false, cond, List, [], ◌∷◌, ◌++◌, find, Option, Some, None, IfSome, is_some, option_map, refl, sym, ap, subst, ◌∙◌, true≢false, lit<, ◌+◌, ◌-◌}
 use Rattle.std.specs.Prelude.{option_and_then}
-use Rattle.std.specs.List.{list_any, list_all}
 use Rattle.std.proofs.lemmas.Bool.{and_parts}
 use Rattle.apdu.specs.Values.{CommandValue, ResponseValue}
 use Rattle.apdu.specs.Words.{same_bytes, path_is_in, has_value}
@@ -17,17 +16,16 @@ use Rattle.families.specs.Contents.{decoded}
 use Rattle.families.specs.Families.{family_paths, has_path}
 use Rattle.link.specs.declared.chain.Chain.{Chain}
 use Rattle.link.specs.declared.chain.Final.{Final}
-use Rattle.link.specs.Commands.{asks_more, chain_count, chain_first, continued, final_after, first_of, is_reading_select, named_path}
+use Rattle.link.specs.Commands.{asks_more, chain_count, chain_first, final_after, first_of, is_reading_select, named_path}
 use Rattle.epoch_cache.specs.declared.cached.CachedFile.{CachedFile}
 use Rattle.epoch_cache.specs.declared.cached.Touch.{Touch}
 use Rattle.epoch_cache.specs.declared.cached.Written.{Written}
 use Rattle.epoch_cache.specs.declared.cached.Written.TheVariants as written
-use Rattle.epoch_cache.specs.Cache.{all_current, content_or_missing, files_exchanged, forgotten, handed_refresh, refresh_of, is_current, is_moved, is_of, is_row_update, is_update, patched, taken, touch_exchanged, view_of_files, with_completed, written_by, written_files}
+use Rattle.epoch_cache.specs.Cache.{all_current, content_or_missing, files_exchanged, forgotten, handed_refresh, refresh_of, is_current, is_moved, is_of, is_row_update, is_update, taken, touch_exchanged, view_of_files, with_completed, written_by, written_files}
 use Rattle.epoch_cache.proofs.LookUps.{same_equal, others_with}
 use Rattle.loader.specs.Values.{ReadingValue, is_readable}
-use Rattle.loader.specs.Reading.{next_read, row_read, begun, begun_by, completed_by, complete_one, file_of_complete, file_read, further, is_basic_read, is_complete, no_file, reading_after, reading_at, reading_of, is_reading_of, tells_no_file}
+use Rattle.loader.specs.Reading.{next_read, row_read, begun, begun_by, completed_by, file_of_complete, file_read, further, is_basic_read, is_complete, no_file, reading_at, reading_of, is_reading_of}
 use Rattle.script_reader.specs.declared.types.Script.{Script}
-use Rattle.report.specs.declared.line.Line.{Line}
 use Rattle.report.specs.declared.line.Line.TheVariants.{Exchange}
 use Rattle.rules.specs.declared.kept.Job.{Job}
 use Rattle.rules.specs.declared.kept.Kept.{Kept}

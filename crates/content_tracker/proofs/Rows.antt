@@ -1,9 +1,8 @@
 -- A row of a family's file that was written.
-use Rattle.std.proofs.Common.{◌≡◌, ◌<◌, ◌≤◌, ◌+◌, ◌-◌, ◌==◌, ◌&&◌, ℕ, zero, suc, Bool, true, false, cond, List, [], ◌∷◌, length, get_or, map, Option, Some, None, IfSome, option_map, refl, sym, ap, subst, ◌∙◌, arith}
-use Rattle.std.proofs.Math.ListN.{set}
+use Rattle.std.proofs.Common.{◌≡◌, ◌<◌, ◌-◌, ◌==◌, ◌&&◌, ℕ, zero, suc, Bool, true, false, cond, List, [], ◌∷◌, get_or, map, Option, Some, None, IfSome, option_map, refl, sym, ap, subst, ◌∙◌, arith}
 use Rattle.std.proofs.lemmas.List.{set-get_or}
 use Rattle.apdu.specs.Words.{same_bytes, path_is_in}
-use Rattle.fcp.specs.Content.{Content, missing, with_row}
+use Rattle.fcp.specs.Content.{Content, with_row}
 use Rattle.families.specs.declared.content.StandardContent.{StandardContent}
 use Rattle.families.specs.Contents.{decoded, is_editable}
 use Rattle.families.specs.Families.{View, family_paths, has_path}
@@ -12,7 +11,7 @@ use Rattle.epoch_cache.specs.declared.cached.CachedFile.{CachedFile}
 use Rattle.epoch_cache.specs.Cache.{content_or_missing, is_of, is_row_of, patched_file, taken, view_of_files}
 use Rattle.epoch_cache.proofs.LookUps.{same_equal, taken_patched, others_patched}
 use Rattle.content_tracker.specs.declared.follow.WrittenRow.{WrittenRow}
-use Rattle.content_tracker.specs.Contents.{IsOf, WasBefore, behind_row, number_of}
+use Rattle.content_tracker.specs.Contents.{WasBefore, number_of}
 use Rattle.content_tracker.proofs.Views.{same_decoded}
 
 -- ---- the file of one path

@@ -1,9 +1,8 @@
 -- What the files of a family hold, by two views of them.
-use Rattle.std.proofs.Common.{◌≡◌, ◌<◌, ℕ, zero, suc, true, List, Option, Some, None, unwrap_or, option_map, refl, sym, ap, subst, ◌∙◌, arith, IfOk, Result}
+use Rattle.std.proofs.Common.{◌≡◌, ◌<◌, ℕ, zero, suc, true, List, Option, Some, None, unwrap_or, option_map, refl, ap, subst, ◌∙◌, arith, IfOk, Result}
 use Rattle.fcp.specs.Content.{Content, missing}
 use Rattle.families.specs.declared.content.StandardContent.{StandardContent}
 use Rattle.families.specs.declared.content.StandardContent.TheVariants as content
-use Rattle.families.specs.declared.content.Records.{Records}
 use Rattle.families.specs.Patches.{WasContent, path_at}
 use Rattle.families.proofs.Shown.{decoded_shown}
 use Rattle.families.specs.Families.{View, shown, has_path, iccid_path, imsi_path, ad_path, spn_path, msisdn_path, ext5_path, dir_path, adn_path, ext1_path, fdn_path, ext2_path}
@@ -63,7 +62,9 @@ kept_shown f files c e = ap content_text e ∙ decoded_shown f (view_of_files fi
 -- what was decoded before a row was written, by the view of current files
 pub was_current : (decode : View → StandardContent) (paths : List (List ℕ)) (file row : ℕ) (c : StandardContent) (files : List CachedFile) → WasContent decode paths file row c (view_of_files files) → WasContent decode paths file row c (files_of (λ path. content_taken path files))
 was_current decode paths file row c files h = record {
-  before = h.before; bytes = h.bytes; decoded = h.decoded;
+  before = h.before;
+  bytes = h.bytes;
+  decoded = h.decoded;
   files = λ i within. current_view files (path_at paths i) ∙ h.files i within;
 }
 

@@ -116,7 +116,9 @@ impl ContentTracker {
         ensures { OnOk result (self.new ≡ kept_after script.now line.now self.old) }
     {
         let Line::Exchange {
-            command, response, ..
+            command,
+            response,
+            ..
         } = line
         else {
             unreachable!()

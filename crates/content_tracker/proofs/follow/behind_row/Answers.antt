@@ -1,4 +1,4 @@
-use Rattle.std.proofs.Common.{◌≡◌, true, false, ap, ◌∙◌, sym, rules, subst}
+use Rattle.std.proofs.Common.{◌≡◌, true, ◌∙◌, sym, rules, subst}
 use Rattle.families.specs.Contents.{decoded, is_editable}
 use Rattle.families.specs.Families.{family_paths, has_path}
 use Rattle.families.specs.Patches.{WasContent}

@@ -1,6 +1,4 @@
-use Rattle.std.proofs.Common.{◌≡◌, ℕ, List, IfOk, Result, subst, sym, arith}
-use Rattle.epoch_cache.specs.Cache.{view_of_files}
-use Rattle.families.specs.Families.{shown}
+use Rattle.std.proofs.Common.{arith}
 use Rattle.content_tracker.proofs.Views.{text_at}
 use Rattle.content_tracker.proofs.contents.Contents.text.Goals as goal
 

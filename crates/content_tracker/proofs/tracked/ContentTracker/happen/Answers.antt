@@ -1,6 +1,6 @@
-use Rattle.std.proofs.Common.{ap, ◌∙◌, subst, sym}
+use Rattle.std.proofs.Common.{subst, sym}
 use Rattle.content_tracker.specs.declared.contents.Contents.{Contents}
-use Rattle.content_tracker.specs.Contents.{AreOf, behind_event}
+use Rattle.content_tracker.specs.Contents.{AreOf}
 use Rattle.content_tracker.proofs.Lines.{behind_world}
 use Rattle.content_tracker.proofs.tracked.ContentTracker.happen.Goals as goal
 
