@@ -1,5 +1,5 @@
 // What callers have of a hub.
-ghost use Rattle.std.specs.Prelude.{◌≡◌, ◌&&◌, ◌≤◌, ◌∷◌, [], not, true, false, IsSome, IfSome, IsErr, IfOk, OnOk, OnErr};
+ghost use Rattle.std.specs.Prelude.{◌≡◌, ◌&&◌, ◌≤◌, ◌∷◌, [], not, true, false, reverse, slice_get, IsSome, IfSome, IsErr, IfOk, OnOk, OnErr};
 ghost use Rattle.script_reader.specs.Rules.{keeps_rules};
 ghost use Rattle.script_reader.specs.World.{first_world};
 ghost use Rattle.report.specs.declared.line.Line.TheVariants as line;
@@ -16,7 +16,7 @@ use crate::turn::Turn;
 use apdu::Memory;
 use card_model::ScriptedSlot;
 use performed::finished_runs_are_legal;
-use report::{Mode, Report, ReservedLines};
+use report::{Line, Mode, Report, ReservedLines};
 use script::Script;
 use std::alloc::Global;
 use std::marker::Model;
@@ -107,6 +107,13 @@ impl<S: ScriptedSlot + Drop> Hub<S> {
         ensures { self.now.whole ≡ true → result ≡ (kept_now self.now).publications }
     {
         self.engine.tracker.kept().publications
+    }
+
+    /// A copy of the line of this index, counted from the first line.
+    pub fn line(&self, at: usize) -> Result<Option<Line>, Memory>
+        ensures { IfOk result (λ line. line ≡ slice_get (reverse self.now.lines) at) }
+    {
+        self.engine.lines.get(at)
     }
 
     /// A turn of an actor; actor 0 is the framework. Want of memory before the turn's first event changes nothing; behind it the hub is

@@ -38,8 +38,6 @@ pub mod EditsMarks
 pub mod EditsScript
 pub mod EditsLines
 pub mod EditsTurns
-pub mod EditsKept
-pub mod EditsRule
 pub mod CalmManage
 pub mod CalmHeld
 pub mod CalmMatch
