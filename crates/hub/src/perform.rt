@@ -19,7 +19,6 @@ ghost use Rattle.hub.specs.Performing.{is_holding, is_performed};
 ghost use Rattle.hub.specs.Settled.{BreaksBehind, HasOneMore, IsSince, IsUnderWay, KeepsAll, LeavesRoom, MayPublish, most_of_text};
 
 use crate::engine::{BYTES_OF_PUBLICATION, BYTES_OF_TURN, Engine, NoPlans};
-use crate::publish::text_of;
 use apdu::{Command, Memory, Text};
 use card_model::{Fault, ScriptedSlot, Slot, WorldEvent, WorldRefusal};
 use planner::{begun_of, decision_at_begin};
@@ -288,7 +287,7 @@ impl<S: ScriptedSlot> Engine<S> {
         match ready {
             Some(text) => Ok(text),
             None => {
-                let text = text_of(self.alloc, family, self.tracker.kept())?;
+                let text = self.tracker.text(family)?;
                 let most = text
                     .as_str()
                     .len()
