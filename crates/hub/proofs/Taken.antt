@@ -32,7 +32,7 @@ use Rattle.hub.specs.Parts.{Parts}
 use Rattle.hub.specs.Settled.{HasLine, HasTurned, IsSettled, IsWorldOf, KeepsAll}
 use Rattle.hub.proofs.Idle.{idle_settles}
 use Rattle.hub.proofs.Ties.{tied_kept}
-use Rattle.hub.proofs.Turning.{unmarked}
+use Rattle.hub.proofs.Turning.{line_filled, unmarked}
 
 -- what callers see of the parts
 abbrev pub seen : Parts → Bool → HubValue
@@ -56,23 +56,6 @@ pub rest_now : (h : HubValue) (p : Parts) (whole : Bool) → seen p whole ≡ h 
 rest_now h p whole e t = subst IsAtRest e (rest_of p whole t)
 
 -- ---- a turn is not without lines
-
-led_filled : (op : Option Operation) (job : Job) (held : List ℕ) (facts : Facts) (refused : Option RefusedReading) (t : Turn) (o : Option Final) → facts.answered ≡ o → (turn_exchanged op job held facts refused t).bare ≡ false
-led_filled op job held facts refused t None e = rw e refl
-led_filled op job held facts refused t (Some f) e = rw e refl
-
-line_filled : (s : Script) (l : Line) (k : Kept) → is_mark l ≡ false → (kept_after s l k).turn.bare ≡ false
-line_filled s (line.Turn a) k m = absurd (true≢false m)
-line_filled s (line.Begin a i) k m = refl
-line_filled s (line.Exchange a c r) k m = led_filled _ _ _ (facts_of s (line.Exchange a c r) k) _ k.turn (facts_of s (line.Exchange a c r) k).answered refl
-line_filled s (line.Failed a c d) k m = refl
-line_filled s (line.Reset a) k m = refl
-line_filled s (line.ResetFailed a) k m = refl
-line_filled s (line.World a e) k m = refl
-line_filled s (line.Published n f e v text) k m = refl
-line_filled s (line.EpochEnd n e v) k m = refl
-line_filled s (line.Refused f n) k m = refl
-line_filled s (line.Answered a i given) k m = refl
 
 filled : (s : Script) (earlier added : List Line) (a : ℕ) → serves s ≡ true → are_followed s (added ++ line.Turn a ∷ earlier) ≡ true → has_no_mark added ≡ true → is_idle s (kept_of s earlier) a ≡ false → ends_turn (due s (kept_of s (added ++ line.Turn a ∷ earlier))) ≡ true → (kept_of s (added ++ line.Turn a ∷ earlier)).turn.bare ≡ false
 filled s earlier [] a v f own awake e = absurd (true≢false (sym e ∙ marks_move s earlier a v f awake))

@@ -8,4 +8,4 @@ pub returns-clause-line : goal.returns-clause-line
 returns-clause-line g c =
     one_quiet _ _ _ (line.Begin c.args.actor c.args.op) c.requires.turn.tied
     (begin_follows c.args.self.now.script c.args.self.now.tracker c.args.actor c.requires.turn.turn c.args.op c.requires.due)
-    c.push_within.ensures.lines c.push_within.ensures.spare c.begin.ensures (λ x. refl) (of_all _ (λ x. refl)) refl refl
+    c.push_within.ensures.lines c.push_within.ensures.spare c.begin.ensures c.in-Some.ensures.new refl (λ x. refl) (of_all _ (λ x. refl)) refl refl
