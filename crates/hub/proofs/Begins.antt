@@ -112,3 +112,10 @@ is_begun s k a (give x) d actor h may = tt
 is_begun s k a (wait_for b) d actor h may = tt
 is_begun s k a end_of_actor d actor h may = tt
 is_begun s k a rest d actor h may = tt
+
+-- the attempt that it begins, if any, is new
+pub new_attempt : (s : Script) (l : Line) (k : Kept) (d : Decision) → IsDecision s l k d → is_new_attempt (decision_at s l k).attempt ≡ true
+new_attempt s l k d h = ap (λ (x : Decision). is_new_attempt x.attempt) (sym h.value) ∙ h.new
+
+pub decided_new : (s : Script) (l : Line) (k : Kept) (o : Option Decision) (d : Decision) → IsSomeDecision s l k o → o ≡ Some d → is_new_attempt (decision_at s l k).attempt ≡ true
+decided_new s l k o d h e = new_attempt s l k d (subst (IsSomeDecision s l k) e h)
