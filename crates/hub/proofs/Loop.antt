@@ -1,13 +1,16 @@
 -- What was made ready before a turn, from line to line of it.
-use Rattle.std.proofs.Common.{◌≡◌, ◌<◌, ◌≤◌, ◌⊎◌, inl, inr, ℕ, Bool, true, false, nat_lt, if◌then◌else◌, List, [], ◌∷◌, ◌++◌, Option, Some, None, is_some, IsOk, Result, Ok, Err, refl, sym, ap, ◌∙◌, subst, true≢false, arith}
+use Rattle.std.proofs.Common.{◌≡◌, ◌<◌, ◌≤◌, ◌+◌, ◌⊎◌, inl, inr, ℕ, Bool, true, false, nat_lt, if◌then◌else◌, List, [], ◌∷◌, ◌++◌, Option, Some, None, is_some, IsOk, Result, Ok, Err, refl, sym, ap, ◌∙◌, subst, true≢false, arith}
 use Rattle.std.proofs.lemmas.Bool.{and_parts}
+use Rattle.card_model.specs.declared.world.World.{World}
+use Rattle.card_model.specs.Slot.{Plan}
 use Rattle.script_reader.specs.declared.types.Script.{Script}
 use Rattle.report.specs.declared.line.Line.{Line}
 use Rattle.report.specs.declared.line.Line.TheVariants as line
 use Rattle.rules.specs.declared.due.Due.{Due}
 use Rattle.rules.specs.declared.kept.Decision.{Decision}
 use Rattle.rules.specs.declared.kept.Kept.{Kept}
-use Rattle.rules.specs.Kept.{begun_of}
+use Rattle.rules.specs.Kept.{actor_count, begun_of}
+use Rattle.rules.specs.Work.{is_finished}
 use Rattle.rules.specs.After.{is_mark, kept_after, kept_of}
 use Rattle.rules.specs.Due.{due}
 use Rattle.planner.specs.Room.{AreLeft, AreLeftInTurn, is_decided, is_given, turn_is_decided}
@@ -16,8 +19,10 @@ use Rattle.hub.specs.Decided.{IsBegun, IsDecision, MayBegin}
 use Rattle.hub.specs.Parts.{Parts}
 use Rattle.hub.specs.Settled.{HasBroken, HasLeft, HasLine, HasOneMore, IsReadyFor, IsSettled, IsTied, IsTurning, KeepsAll, StaysWith}
 use Rattle.hub.specs.declared.engine.Ready.{Ready}
-use Rattle.hub.proofs.Begins.{is_begun, may_behind}
+use Rattle.hub.proofs.Begins.{is_begun, may_behind, new_attempt}
+use Rattle.hub.proofs.Follows.{mark_follows}
 use Rattle.hub.proofs.Left.{left_marked, left_step}
+use Rattle.hub.proofs.Ties.{IsPlayed, has_line, of_all, quiet}
 use Rattle.hub.proofs.Turning.{line_filled, unless}
 
 -- ---- made ready
@@ -37,6 +42,22 @@ rows_kept p q a ready h t = subst (λ (k : Kept). AreLeft (begun_of a k.jobs) re
 
 pub some_kept : (p q : Parts) (a : ℕ) (ready : Option (List ℕ)) → KeepsAll p q → (is_decided (begun_of a p.kept.jobs) ≡ true → is_some ready ≡ true) → is_decided (begun_of a q.kept.jobs) ≡ true → is_some ready ≡ true
 some_kept p q a ready h t d = t (ap (λ (k : Kept). is_decided (begun_of a k.jobs)) (sym h.kept) ∙ d)
+
+-- ---- the mark
+
+module _ (p q : Parts) (a : ℕ) where
+  mark_played : q.world ≡ p.world → q.plan ≡ p.plan → IsPlayed p.script p.kept (line.Turn a) p.world q.world p.plan q.plan
+  mark_played world plan =
+      subst (λ (v : Option World). IsPlayed p.script p.kept (line.Turn a) p.world v p.plan q.plan) (sym world)
+      (subst (λ (o : Option Plan). IsPlayed p.script p.kept (line.Turn a) p.world p.world p.plan o) (sym plan)
+      (quiet p.script p.kept (line.Turn a) p.world p.plan (λ x. refl) (of_all p.world (λ x. refl)) refl))
+
+  pub mark_line : (d : Decision) → IsSettled p → IsDecision p.script (line.Turn a) p.kept d → is_finished p.script p.kept ≡ false → a ≤ actor_count p.script
+      → q.script ≡ p.script → q.kept ≡ kept_after p.script (line.Turn a) p.kept → q.world ≡ p.world → q.plan ≡ p.plan → q.lines.lines ≡ line.Turn a ∷ p.lines.lines → q.lines.spare + 1 ≡ p.lines.spare → HasLine (line.Turn a) p q
+  mark_line d t h pending few script kept world plan lines spare =
+      subst (HasLine (line.Turn a) p) (ap (λ (s : Script). let x : Parts = record { script = s; lines = q.lines; kept = q.kept; world = q.world; plan = q.plan } in x) (sym script))
+      (has_line p q.lines q.kept q.world q.plan (line.Turn a) t.tied (mark_follows p.script p.kept a t.ends pending few) lines spare kept
+      (new_attempt p.script (line.Turn a) p.kept d h) refl (mark_played world plan))
 
 -- ---- behind the mark
 

@@ -111,6 +111,7 @@ impl<S: ScriptedSlot> Engine<S> {
         ensures err { OnErr result (BreaksBehind from
             (parts S.Slot.world S.Slot.plan self.old) (parts S.Slot.world S.Slot.plan self.new)) }
     {
+        let _row = command.p1;
         match self.slot.exchange(&command) {
             Ok(response) => {
                 let line = Line::Exchange {
