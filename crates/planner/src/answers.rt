@@ -203,11 +203,7 @@ fn outcome_or_planning(turn: &Turn) -> Option<Answer>
     }
 }
 
-fn edit_answer(
-    left: &mut LeftRows,
-    begun: &Begun,
-    turn: &Turn,
-) -> Result<Option<Answer>, Memory>
+fn edit_answer(left: &mut LeftRows, begun: &Begun, turn: &Turn) -> Result<Option<Answer>, Memory>
     requires left { AreLeft (Some begun.now) left.old.ready }
     ensures value { IfOk result (λ given. given
         ≡ rules.edit_answer begun.now turn.now begun.now.editing.decided) }
