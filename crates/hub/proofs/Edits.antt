@@ -1,5 +1,5 @@
 -- The edits that are under way stay short from line to line.
-use Rattle.std.proofs.Common.{◌≡◌, ◌≤◌, ◌+◌, ◌&&◌, ◌==◌, ◌||◌, ℕ, zero, suc, not, Bool, true, false, nat_le, if◌then◌else◌, List, [], ◌∷◌, map, length, slice_get, slice_set, replicate, Option, Some, None, is_some, refl, sym, ap, ◌∙◌, subst, true≢false, arith, le-leb, leb-true, eqb-true}
+use Rattle.std.proofs.Common.{◌≡◌, ◌<◌, ◌^◌, ◌≤◌, ◌+◌, ◌&&◌, ◌==◌, ◌||◌, ℕ, zero, suc, not, Bool, true, false, nat_le, if◌then◌else◌, List, [], ◌∷◌, map, length, slice_get, slice_set, replicate, Option, Some, None, is_some, refl, sym, ap, ◌∙◌, subst, true≢false, arith, le-leb, leb-true, eqb-true}
 use Rattle.std.specs.Prelude.{option_map}
 use Rattle.std.specs.List.{list_all}
 use Rattle.std.proofs.lemmas.Bool.{and_parts}
@@ -223,3 +223,7 @@ short_after n s l k new row h =
 pub none_short : (n m : ℕ) → are_short n (replicate m first_job) ≡ true
 none_short n zero = refl
 none_short n (suc m) = none_short n m
+
+-- a byte numbers a row
+pub row_number : (p q : ℕ) → p ≡ q → p < 2 ^ 8 → is_row_number q ≡ true
+row_number p q e h = le-leb q 255 (omega arith)

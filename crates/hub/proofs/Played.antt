@@ -118,11 +118,11 @@ reset_done : (s : Script) (k : Kept) (r : Result (Unit {0}) SlotFault) (b : Bool
 reset_done s k r b x v None told plan n h e = absurd (true≢false (sym told))
 reset_done s k r b x v (Some y) told plan n h e = fails_as s k y x b plan n (sym e ∙ h.fails)
 
-reset_shows : (s : Script) (k : Kept) (a : ℕ) (w v : Option World) (p : Option Plan) → ToldWith w p → IfSome p (IsPlanOf s k) → k.history.calls + 1 < 2 ^ 64 → ResetsAsPlanned p w v (Ok tt) → Resets w v → IfSome w (λ x. (v ≡ Some (world_after (line.Reset a) x)) × (is_told s x k (line.Reset a) ≡ true))
+reset_shows : (s : Script) (k : Kept) (a : ℕ) (w v : Option World) (p : Option Plan) → ToldWith w p → IfSome p (IsPlanOf s k) → k.history.calls + 1 < 2 ^ 64 → ResetsAsPlanned {T = Unit {0}} p w v (Ok tt) → Resets w v → IfSome w (λ x. (v ≡ Some (world_after (line.Reset a) x)) × (is_told s x k (line.Reset a) ≡ true))
 reset_shows s k a None v p told plan n h g = tt
 reset_shows s k a (Some x) v p told plan n h g = (g.world, ap not (reset_done s k (Ok tt) false x v p (told refl) plan n h refl))
 
-pub reset_played : (s : Script) (k : Kept) (a : ℕ) (w v : Option World) (p q : Option Plan) → ToldWith w p → IfSome p (IsPlanOf s k) → k.history.calls + 1 < 2 ^ 64 → StaysTold w v → StaysTold p q → Counts p q → ResetsAsPlanned p w v (Ok tt) → Resets w v → IsPlayed s k (line.Reset a) w v p q
+pub reset_played : (s : Script) (k : Kept) (a : ℕ) (w v : Option World) (p q : Option Plan) → ToldWith w p → IfSome p (IsPlanOf s k) → k.history.calls + 1 < 2 ^ 64 → StaysTold w v → StaysTold p q → Counts p q → ResetsAsPlanned {T = Unit {0}} p w v (Ok tt) → Resets w v → IsPlayed s k (line.Reset a) w v p q
 reset_played s k a w v p q told plan n tells tells_plan count planned resets = record {
   tells = tells;
   tells_plan = tells_plan;
@@ -130,15 +130,15 @@ reset_played s k a w v p q told plan n tells tells_plan count planned resets = r
   counts = counts_call s k (line.Reset a) p q refl plan n count;
 }
 
-reset_left : (e : SlotFault) (x : World) (v : Option World) (p : Option Plan) → is_some p ≡ true → ResetsAsPlanned p (Some x) v (Err e) → v ≡ Some x
+reset_left : (e : SlotFault) (x : World) (v : Option World) (p : Option Plan) → is_some p ≡ true → ResetsAsPlanned {T = Unit {0}} p (Some x) v (Err e) → v ≡ Some x
 reset_left e x v None told h = absurd (true≢false (sym told))
 reset_left e x v (Some y) told h = h.left
 
-reset_failed_shows : (s : Script) (k : Kept) (a : ℕ) (e : SlotFault) (w v : Option World) (p : Option Plan) → ToldWith w p → IfSome p (IsPlanOf s k) → k.history.calls + 1 < 2 ^ 64 → ResetsAsPlanned p w v (Err e) → IfSome w (λ x. (v ≡ Some (world_after (line.ResetFailed a) x)) × (is_told s x k (line.ResetFailed a) ≡ true))
+reset_failed_shows : (s : Script) (k : Kept) (a : ℕ) (e : SlotFault) (w v : Option World) (p : Option Plan) → ToldWith w p → IfSome p (IsPlanOf s k) → k.history.calls + 1 < 2 ^ 64 → ResetsAsPlanned {T = Unit {0}} p w v (Err e) → IfSome w (λ x. (v ≡ Some (world_after (line.ResetFailed a) x)) × (is_told s x k (line.ResetFailed a) ≡ true))
 reset_failed_shows s k a e None v p told plan n h = tt
 reset_failed_shows s k a e (Some x) v p told plan n h = (reset_left e x v p (told refl) h, reset_done s k (Err e) true x v p (told refl) plan n h refl)
 
-pub reset_failed_played : (s : Script) (k : Kept) (a : ℕ) (e : SlotFault) (w v : Option World) (p q : Option Plan) → ToldWith w p → IfSome p (IsPlanOf s k) → k.history.calls + 1 < 2 ^ 64 → StaysTold w v → StaysTold p q → Counts p q → ResetsAsPlanned p w v (Err e) → IsPlayed s k (line.ResetFailed a) w v p q
+pub reset_failed_played : (s : Script) (k : Kept) (a : ℕ) (e : SlotFault) (w v : Option World) (p q : Option Plan) → ToldWith w p → IfSome p (IsPlanOf s k) → k.history.calls + 1 < 2 ^ 64 → StaysTold w v → StaysTold p q → Counts p q → ResetsAsPlanned {T = Unit {0}} p w v (Err e) → IsPlayed s k (line.ResetFailed a) w v p q
 reset_failed_played s k a e w v p q told plan n tells tells_plan count planned = record {
   tells = tells;
   tells_plan = tells_plan;

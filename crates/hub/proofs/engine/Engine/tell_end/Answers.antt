@@ -1,4 +1,4 @@
-use Rattle.std.proofs.Common.{refl}
+use Rattle.std.proofs.Common.{refl, ◌+◌}
 use Rattle.report.specs.declared.line.Line.TheVariants as line
 use Rattle.hub.proofs.Follows.{end_follows}
 use Rattle.hub.proofs.Ties.{of_all, one_quiet}
