@@ -91,6 +91,7 @@ moved_on a events k ready r e actor h is there undecided = by (is_decided (begun
     some : (is_some ready ≡ true) ⊎ (events < k.history.events) → events < k.history.events
     some (inl x) = absurd (no_ok r e is (there x))
     some (inr x) = x
+
     by : (b : Bool) → is_decided (begun_of a k.jobs) ≡ b → events < k.history.events
     by false g = absurd (no_ok r e is (undecided (ap (λ (o : Option ℕ). turn_is_decided o k.jobs) actor ∙ g)))
     by true g = some (h.some g)
