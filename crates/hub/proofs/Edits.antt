@@ -1,5 +1,5 @@
 -- The edits that are under way stay short from line to line.
-use Rattle.std.proofs.Common.{◌≡◌, ◌<◌, ◌^◌, ◌≤◌, ◌+◌, ◌&&◌, ◌==◌, ◌||◌, ℕ, zero, suc, not, Bool, true, false, nat_le, if◌then◌else◌, List, [], ◌∷◌, map, length, slice_get, slice_set, replicate, Option, Some, None, is_some, refl, sym, ap, ◌∙◌, subst, true≢false, arith, le-leb, leb-true, eqb-true}
+use Rattle.std.proofs.Common.{◌≡◌, ◌<◌, ◌^◌, ◌+◌, ◌&&◌, ◌==◌, ℕ, zero, suc, Bool, true, false, nat_le, if◌then◌else◌, List, [], ◌∷◌, map, slice_get, slice_set, replicate, Option, Some, None, refl, sym, ap, ◌∙◌, true≢false, arith, le-leb, leb-true, eqb-true}
 use Rattle.std.specs.Prelude.{option_map}
 use Rattle.std.specs.List.{list_all}
 use Rattle.std.proofs.lemmas.Bool.{and_parts}
@@ -8,13 +8,11 @@ use Rattle.apdu.specs.Apdu.{is_update_ins}
 use Rattle.families.specs.Plans.{plan_updates}
 use Rattle.families.specs.Families.{family_path}
 use Rattle.adn.specs.declared.edit.Edit.{Edit}
-use Rattle.adn.specs.declared.edit.RowUpdate.{RowUpdate}
 use Rattle.epoch_cache.specs.declared.cached.Touch.{Touch}
 use Rattle.epoch_cache.specs.Cache.{is_update, moves_one}
 use Rattle.link.specs.declared.chain.Chain.{Chain}
 use Rattle.link.specs.Commands.{is_at}
 use Rattle.script_reader.specs.declared.types.Script.{Script}
-use Rattle.script_reader.specs.declared.types.Operation.{Operation}
 use Rattle.report.specs.declared.line.Line.{Line}
 use Rattle.report.specs.declared.line.Line.TheVariants as line
 use Rattle.editor.specs.declared.editing.Attempt.{Attempt}
@@ -26,7 +24,7 @@ use Rattle.rules.specs.declared.kept.Facts.{Facts}
 use Rattle.rules.specs.declared.kept.Job.{Job}
 use Rattle.rules.specs.declared.kept.Kept.{Kept}
 use Rattle.rules.specs.Kept.{change_at, changed_at, first_job, operation_now}
-use Rattle.rules.specs.After.{actor_of, begun_beside, begun_exchanged, begun_failed, begun_with, decision_at, edit_of, editing_answered, editing_lost, editing_sent, facts_of, framework_marked, job_beside, jobs_beside, jobs_of_actor, kept_after, own_job}
+use Rattle.rules.specs.After.{actor_of, begun_beside, begun_exchanged, begun_failed, begun_with, decision_at, edit_of, editing_answered, editing_lost, editing_sent, facts_of, job_beside, jobs_beside, jobs_of_actor, kept_after, own_job}
 use Rattle.planner.specs.Room.{is_new_attempt, is_short}
 use Rattle.hub.specs.Short.{are_short, is_row_number, is_short_attempt, is_short_begun, is_short_editing, is_short_job}
 

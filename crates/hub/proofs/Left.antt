@@ -1,7 +1,6 @@
 -- The rows that an edit leaves marked are those that were made ready, while no event came.
-use Rattle.std.proofs.Common.{◌≡◌, ◌≤◌, ◌<◌, ◌+◌, ◌==◌, ◌&&◌, ◌||◌, ◌⊎◌, inl, inr, ℕ, zero, suc, not, Bool, true, false, nat_lt, if◌then◌else◌, List, [], ◌∷◌, Option, Some, None, IfSome, is_some, refl, sym, ap, ◌∙◌, subst, true≢false, arith, eqb-true, eq-eqb, ltb-true, ltb-false}
+use Rattle.std.proofs.Common.{◌≡◌, ◌≤◌, ◌<◌, ◌+◌, ◌==◌, ◌&&◌, ◌⊎◌, inl, inr, ℕ, zero, suc, Bool, true, false, nat_lt, if◌then◌else◌, List, [], ◌∷◌, Option, Some, None, IfSome, is_some, refl, sym, ap, ◌∙◌, subst, true≢false, arith, eq-eqb, ltb-true, ltb-false}
 use Rattle.std.specs.Prelude.{option_map, slice_get, unwrap_or}
-use Rattle.std.specs.List.{list_any}
 use Rattle.std.proofs.lemmas.Bool.{and_parts}
 use Rattle.script_reader.specs.declared.types.Script.{Script}
 use Rattle.script_reader.specs.declared.types.Operation.{Operation}
@@ -13,19 +12,19 @@ use Rattle.report.specs.declared.line.Line.TheVariants as line
 use Rattle.epoch_cache.specs.Past.{counted}
 use Rattle.epoch_cache.specs.declared.cached.Touch.{Touch}
 use Rattle.epoch_cache.specs.declared.cached.Written.TheVariants as written
-use Rattle.epoch_cache.specs.Cache.{is_moved, moves_one}
+use Rattle.epoch_cache.specs.Cache.{moves_one}
 use Rattle.editor.specs.declared.editing.Attempt.{Attempt}
 use Rattle.editor.specs.declared.editing.Decided.{Decided}
 use Rattle.editor.specs.declared.editing.Editing.{Editing}
-use Rattle.editor.specs.Editing.{after_of, attempt_behind, left_rows, moved_attempt, moved_editing, names_row, rising, unreleased, with_attempt}
+use Rattle.editor.specs.Editing.{attempt_behind, left_rows, moved_attempt, moved_editing, with_attempt}
 use Rattle.rules.specs.declared.due.Due.{Due}
-use Rattle.rules.specs.declared.due.Due.TheVariants.{TellEnd as tell_end, Send as send, ResetCard as reset_card, TryEvent as try_event, TellRefusal as tell_refusal, Publish as publish, Give as give, Begin as begin, WaitFor as wait_for, EndOfActor as end_of_actor, Rest as rest}
+use Rattle.rules.specs.declared.due.Due.TheVariants.{Give as give}
 use Rattle.rules.specs.declared.kept.Begun.{Begun}
 use Rattle.rules.specs.declared.kept.Decision.{Decision}
 use Rattle.rules.specs.declared.kept.Job.{Job}
 use Rattle.rules.specs.declared.kept.Kept.{Kept}
 use Rattle.rules.specs.declared.kept.Work.TheVariants.{Rests as rests}
-use Rattle.rules.specs.Kept.{begun_of, first_job, job_of, operation_at, operation_now}
+use Rattle.rules.specs.Kept.{begun_of, first_job, job_of, operation_now}
 use Rattle.rules.specs.History.{is_event, lives_in}
 use Rattle.rules.specs.After.{begun_beside, begun_with, decision_at, decision_of_begun, facts_of, fresh_begun, is_mark, job_beside, kept_after, own_job}
 use Rattle.rules.specs.Due.{due}

@@ -1,5 +1,5 @@
 -- What was made ready before a turn, from line to line of it.
-use Rattle.std.proofs.Common.{◌≡◌, ◌<◌, ◌≤◌, ◌+◌, ◌⊎◌, inl, inr, ℕ, Bool, true, false, nat_lt, if◌then◌else◌, List, [], ◌∷◌, ◌++◌, Option, Some, None, is_some, IsOk, Result, Ok, Err, refl, sym, ap, ◌∙◌, subst, true≢false, arith}
+use Rattle.std.proofs.Common.{◌≡◌, ◌<◌, ◌≤◌, ◌+◌, ◌⊎◌, inl, inr, ℕ, Bool, true, false, nat_lt, List, ◌∷◌, Option, Some, is_some, IsOk, Result, Ok, Err, refl, sym, ap, ◌∙◌, subst, true≢false, arith}
 use Rattle.std.proofs.lemmas.Bool.{and_parts}
 use Rattle.card_model.specs.declared.world.World.{World}
 use Rattle.card_model.specs.Slot.{Plan}
@@ -11,14 +11,13 @@ use Rattle.rules.specs.declared.kept.Decision.{Decision}
 use Rattle.rules.specs.declared.kept.Kept.{Kept}
 use Rattle.rules.specs.Kept.{actor_count, begun_of}
 use Rattle.rules.specs.Work.{is_finished}
-use Rattle.rules.specs.After.{is_mark, kept_after, kept_of}
+use Rattle.rules.specs.After.{kept_after, kept_of}
 use Rattle.rules.specs.Due.{due}
 use Rattle.planner.specs.Room.{AreLeft, AreLeftInTurn, is_decided, is_given, turn_is_decided}
 use Rattle.performed.specs.Followed.{are_followed, is_followed}
 use Rattle.hub.specs.Decided.{IsBegun, IsDecision, MayBegin}
 use Rattle.hub.specs.Parts.{Parts}
-use Rattle.hub.specs.Settled.{HasBroken, HasLeft, HasLine, HasOneMore, IsReadyFor, IsSettled, IsTied, IsTurning, KeepsAll, StaysWith}
-use Rattle.hub.specs.declared.engine.Ready.{Ready}
+use Rattle.hub.specs.Settled.{HasBroken, HasLeft, HasLine, HasOneMore, IsSettled, IsTied, IsTurning, KeepsAll, StaysWith}
 use Rattle.hub.proofs.Begins.{is_begun, may_behind, new_attempt}
 use Rattle.hub.proofs.Follows.{mark_follows}
 use Rattle.hub.proofs.Left.{left_marked, left_step}

@@ -1,5 +1,5 @@
 -- What the slot's calls do where it tells its world and its plan.
-use Rattle.std.proofs.Common.{◌≡◌, ◌<◌, ◌&&◌, ◌||◌, ◌+◌, ◌-◌, ◌^◌, min, not, ℕ, Bool, true, false, if◌then◌else◌, List, Option, Some, None, IfSome, is_some, is_none, is_err, Result, Ok, Err, refl, sym, ap, ◌∙◌, subst, true≢false, arith, eq-eqb}
+use Rattle.std.proofs.Common.{◌≡◌, ◌<◌, ◌&&◌, ◌+◌, ◌-◌, ◌^◌, min, not, ℕ, Bool, true, false, if◌then◌else◌, Option, Some, None, IfSome, is_some, is_none, is_err, Result, Ok, Err, refl, sym, ap, ◌∙◌, subst, true≢false, arith, eq-eqb}
 use Rattle.apdu.specs.Values.{CommandValue, ResponseValue}
 use Rattle.apdu.specs.Apdu.{same_response}
 use Rattle.card_model.specs.declared.slot.SlotFault.{SlotFault}

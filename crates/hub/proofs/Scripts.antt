@@ -1,5 +1,5 @@
 -- What the rules of a script, and that it is served, say of it.
-use Rattle.std.proofs.Common.{◌≡◌, ◌≤◌, ◌<◌, ◌&&◌, ◌||◌, ◌⊎◌, inl, inr, eqb-true, ◌==◌, ℕ, zero, suc, Bool, true, false, nat_le, List, [], ◌∷◌, length, Option, Some, None, if◌then◌else◌, refl, sym, ap, subst, ◌∙◌, arith, le-leb, leb-true, true≢false, lit<}
+use Rattle.std.proofs.Common.{◌≡◌, ◌≤◌, ◌<◌, ◌&&◌, ◌||◌, ◌⊎◌, inl, inr, eqb-true, ◌==◌, ℕ, zero, suc, Bool, true, false, nat_le, List, ◌∷◌, length, Option, Some, None, if◌then◌else◌, refl, sym, subst, arith, le-leb, leb-true, true≢false}
 use Rattle.std.specs.List.{list_all}
 use Rattle.std.specs.Prelude.{option_and_then}
 use Rattle.std.proofs.lemmas.Bool.{and_parts}
@@ -16,11 +16,10 @@ use Rattle.report.specs.declared.line.Line.TheVariants as line
 use Rattle.rules.specs.declared.kept.Begun.{Begun}
 use Rattle.rules.specs.declared.kept.Job.{Job}
 use Rattle.rules.specs.declared.kept.Kept.{Kept}
-use Rattle.rules.specs.Kept.{begun_of, job_of, operation_at, operation_now}
+use Rattle.rules.specs.Kept.{begun_of, job_of, operation_now}
 use Rattle.rules.specs.After.{kept_of}
 use Rattle.epoch_cache.specs.Cache.{all_current}
 use Rattle.families.specs.Families.{family_paths}
-use Rattle.performed.proofs.TurnsSays.{says_of}
 use Rattle.tracker.specs.Held.{gives_holding}
 use Rattle.tracker.specs.Room.{operation_fits}
 use Rattle.report.specs.declared.answer.Answer.{Answer}
@@ -28,7 +27,6 @@ use Rattle.report.specs.declared.answer.Answer.TheVariants as answer
 use Rattle.hub.specs.Performing.{is_holding}
 use Rattle.performed.specs.Served.{serves}
 use Rattle.performed.specs.Followed.{is_slot_answer}
-use Rattle.performed.proofs.CalmSends.{ServedOp, served_at, served_now}
 use Rattle.performed.proofs.LegalScript.{IsPlain, family_known, is_family_or_none, plain_now}
 use Rattle.hub.specs.Ready.{family_by, family_next, family_ready, if_current}
 use Rattle.hub.specs.Parts.{Parts}

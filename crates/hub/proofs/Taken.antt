@@ -4,19 +4,13 @@ use Rattle.std.proofs.lemmas.Bool.{and_parts}
 use Rattle.card_model.specs.declared.world.World.{World}
 use Rattle.card_model.specs.Slot.{Plan, StaysTold}
 use Rattle.script_reader.specs.declared.types.Script.{Script}
-use Rattle.script_reader.specs.declared.types.Operation.{Operation}
 use Rattle.script_reader.specs.Rules.{keeps_rules}
 use Rattle.script_reader.specs.World.{first_world}
 use Rattle.report.specs.declared.line.Line.{Line}
 use Rattle.report.specs.declared.line.Line.TheVariants as line
 use Rattle.report.specs.declared.line.Mode.{Mode}
-use Rattle.link.specs.declared.chain.Final.{Final}
-use Rattle.loader.specs.declared.reading.RefusedReading.{RefusedReading}
-use Rattle.rules.specs.declared.kept.Facts.{Facts}
-use Rattle.rules.specs.declared.kept.Job.{Job}
 use Rattle.rules.specs.declared.kept.Kept.{Kept}
-use Rattle.rules.specs.declared.kept.Turn.{Turn}
-use Rattle.rules.specs.After.{facts_of, is_mark, kept_after, kept_of, turn_exchanged}
+use Rattle.rules.specs.After.{is_mark, kept_of}
 use Rattle.rules.specs.Due.{due}
 use Rattle.rules.specs.Kept.{actor_count, nothing_kept}
 use Rattle.rules.specs.Legal.{legal}

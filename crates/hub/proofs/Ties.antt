@@ -15,9 +15,9 @@ use Rattle.rules.specs.After.{decision_at, is_mark, kept_after, kept_of}
 use Rattle.planner.specs.Room.{is_new_attempt}
 use Rattle.hub.specs.Short.{are_short}
 use Rattle.hub.proofs.Edits.{has_row, short_after}
-use Rattle.rules.specs.State.{world_after, world_of}
-use Rattle.performed.specs.Followed.{are_followed, is_followed}
-use Rattle.performed.specs.Told.{are_told, is_told}
+use Rattle.rules.specs.State.{world_after}
+use Rattle.performed.specs.Followed.{is_followed}
+use Rattle.performed.specs.Told.{is_told}
 use Rattle.performed.proofs.TurnsKept.{goes_on}
 use Rattle.hub.specs.Parts.{Parts}
 use Rattle.hub.specs.Settled.{AreServed, BreaksBehind, HasLine, HasOneMore, KeepsAll, IsPlanOf, IsTied, IsWorldOf}

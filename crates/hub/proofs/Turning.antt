@@ -1,5 +1,5 @@
 -- A turn under way: what its next line may ask for, and what it leaves.
-use Rattle.std.proofs.Common.{◌≡◌, ◌≤◌, ◌<◌, ◌&&◌, ◌+◌, ◌*◌, ◌^◌, ◌==◌, ◌++◌, ◌⊎◌, inl, inr, ℕ, zero, suc, not, Bool, true, false, nat_le, nat_lt, if◌then◌else◌, List, [], ◌∷◌, length, slice_get, unwrap_or, Option, Some, None, is_some, is_none, option_map, refl, sym, ap, ◌∙◌, subst, true≢false, arith, leb-true, lt-ltb, ltb-true, ltb-false, append_assoc}
+use Rattle.std.proofs.Common.{◌≡◌, ◌≤◌, ◌<◌, ◌+◌, ◌^◌, ◌++◌, inl, inr, ℕ, zero, suc, not, Bool, true, false, nat_le, nat_lt, if◌then◌else◌, List, [], ◌∷◌, length, Option, Some, None, is_some, refl, sym, ap, ◌∙◌, subst, true≢false, arith, leb-true, lt-ltb, ltb-true, ltb-false}
 use Rattle.std.specs.List.{list_all}
 use Rattle.std.proofs.lemmas.Bool.{and_parts}
 use Rattle.script_reader.specs.declared.types.Script.{Script}
@@ -22,18 +22,14 @@ use Rattle.families.specs.Plans.{plan_updates}
 use Rattle.adn.specs.declared.edit.RowUpdate.{RowUpdate}
 use Rattle.editor.specs.declared.editing.Attempt.{Attempt}
 use Rattle.planner.specs.Room.{attempt_fits, begun_fits as updates_fit, is_short, turn_fits, update_fits, handles_fit}
-use Rattle.tracker.specs.Room.{CountsOn, HasRoom, attempt_has_room, begun_has_room, job_has_room, mailbox_has_room}
+use Rattle.tracker.specs.Room.{CountsOn, HasRoom, attempt_has_room, begun_has_room, job_has_room}
 use Rattle.hub.specs.Short.{are_short, is_row_number, is_short_attempt, is_short_begun, is_short_job}
-use Rattle.performed.specs.Served.{serves}
-use Rattle.performed.specs.Followed.{are_followed, is_followed}
 use Rattle.performed.specs.Laws.{AreCounted, ArePlainJobs, IsPlain, IsPlainJob, has_no_mark, is_channel}
-use Rattle.performed.specs.Measure.{is_begun, one_if, steps_left}
 use Rattle.performed.proofs.Counts.{counts}
 use Rattle.performed.proofs.Plain.{stays_plain}
 use Rattle.performed.proofs.TurnsKept.{goes_on}
 use Rattle.hub.specs.Parts.{Parts}
-use Rattle.hub.specs.Ready.{family_ready}
-use Rattle.hub.specs.Settled.{BreaksBehind, HasBroken, HasLine, HasOneMore, HasTurned, IsPrepared, IsReady, IsSettled, IsTied, IsSince, IsTurning, IsUnderWay, most_of_text}
+use Rattle.hub.specs.Settled.{IsReady, IsSettled, IsTied, IsSince, IsTurning, IsUnderWay, most_of_text}
 
 -- ---- plain jobs
 

@@ -1,4 +1,3 @@
-use Rattle.std.proofs.Common.{refl}
 use Rattle.hub.proofs.Turning.{handles_small}
 use Rattle.hub.proofs.engine.Engine.begin_decision.Goals as goal
 

@@ -1,4 +1,4 @@
-use Rattle.std.proofs.Common.{◌∙◌, sym, refl, ap, subst, Option, List, ℕ}
+use Rattle.std.proofs.Common.{◌∙◌, sym, ap, subst, Option, List, ℕ}
 use Rattle.planner.specs.Room.{is_given}
 use Rattle.hub.specs.Parts.{parts}
 use Rattle.hub.specs.Settled.{HasLeft}
