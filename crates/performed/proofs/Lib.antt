@@ -40,6 +40,7 @@ pub mod EditsLines
 pub mod EditsTurns
 pub mod EditsKept
 pub mod EditsRule
+pub mod EditsWhole
 pub mod CalmManage
 pub mod CalmHeld
 pub mod CalmMatch
