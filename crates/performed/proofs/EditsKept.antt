@@ -73,22 +73,24 @@ use Rattle.performed.proofs.CalmLent.{sent_of}
 use Rattle.performed.proofs.CalmLines.{sends_of, turn_by, turn_of, turn_is}
 use Rattle.performed.proofs.CalmRest.{told_response, responses_right}
 use Rattle.performed.proofs.CalmSends.{never, exchange_of_turn, exchange_update}
-use Rattle.performed.proofs.SteadyEvents.{world_insertion}
-use Rattle.performed.proofs.SteadyShown.{unarmed_of, never_failed}
 use Rattle.performed.proofs.EditsBegun.{near, Came, stays, marks, begins, exchanges, fails, came}
-use Rattle.performed.proofs.EditsCard.{Answered, answered_of, view_same, view_other, OnBasic}
+use Rattle.performed.proofs.EditsCard.{Answered, answered_by, view_other, OnBasic}
 use Rattle.performed.proofs.EditsMarks.{refused_answers, IsBegun, Begins, turn_begins}
 use Rattle.performed.proofs.EditsPlan.{plan_files}
 use Rattle.performed.proofs.EditsScript.{IsEdit, edit_is, Edits, sets, clears, edits_by, edit_book, begins_alone, seen_alone}
 use Rattle.performed.proofs.EditsSends.{is_book, Does, writes_row, selects_file, does, sends_still}
 use Rattle.performed.proofs.EditsState.{files_in, is_over, IsFresh, IsWriting, EditAt, IsActive, Edited, Leaves, edit_left, unmoved_attempt}
 use Rattle.performed.proofs.EditsSteps.{books_apart, file_of_place, exchanged_same, select_came_to, update_over, updated_edit, now_there}
-use Rattle.performed.proofs.EditsUndying.{Undying, undying_of, is_resetting_stage}
+use Rattle.performed.proofs.EpochPast.{past_stays}
+use Rattle.performed.proofs.EpochLives.{lively, sent_lives}
+use Rattle.performed.proofs.EpochFetch.{is_fetch, fetches, fetch_turn, fetches_first}
+use Rattle.performed.proofs.EpochFiles.{files_left}
+use Rattle.rules.specs.Rules.{has_right_response}
 use Rattle.performed.proofs.ProgressBegins.{Starts, starts}
 use Rattle.performed.proofs.TurnsJobs.{is_own}
 use Rattle.performed.proofs.TurnsSays.{IsDone, turn_done, BeginsNow, begins_now, says_of}
 use Rattle.performed.proofs.EditsLines.{behind_command, Origin, was, newly, origin, decides_edit, done_unfresh, done_unrefused, moves_book, files_by, living_lives, fresh_lives, Writer, writer_of, sends_on, IsBare, bare_of, turn_lacks, begin_lacks, turn_work, turn_came}
-use Rattle.performed.proofs.EditsState.{unplanned, writing, refused, finished}
+use Rattle.performed.proofs.EditsState.{unplanned, writing, refused, finished, past}
 use Rattle.performed.proofs.JobPlaces.{job_count, begun_there}
 use Rattle.std.proofs.lemmas.Bool.{not-true}
 use Rattle.apdu.specs.Apdu.{is_success}
@@ -162,7 +164,7 @@ module _ (agrees : KeptAgrees) (s : Script) (rules : keeps_rules s ≡ true) (se
 
   -- ---- an exchange
 
-  module _ (a : ℕ) (c : CommandValue) (r : ResponseValue) (h : is_followed s k (line.Exchange a c r) ≡ true) (q : is_told s w k (line.Exchange a c r) ≡ true) where
+  module _ (a : ℕ) (c : CommandValue) (r : ResponseValue) (h : is_followed s k (line.Exchange a c r) ≡ true) (right : has_right_response w (line.Exchange a c r) ≡ true) where
     abbrev l : Line
     l = line.Exchange a c r
 
@@ -187,11 +189,14 @@ module _ (agrees : KeptAgrees) (s : Script) (rules : keeps_rules s ≡ true) (se
     pub goes : is_over k.turn.stage ≡ false
     goes = sends_on k c (exchange_of_turn s k a c r sends h)
 
-    pub card : Answered w c r
-    card = answered_of w a c r (unarmed_of s earlier served followed) (told_response s w k l q)
+    pub lives : k.history.living ≡ true
+    lives = sent_lives s k a l (lively s earlier followed) h
 
-    pub current : (path : List ℕ) → k.selected ≡ Some path → HasCurrent card.card path
-    current path e = subst (IsSelected card.card) e (agrees s earlier rules (responses_right s earlier told) card.card card.inside).selected
+    answered : is_fetch c ≡ false → Answered w c r
+    answered none = answered_by w a c r (ap (λ (b : Bool). b && is_success r.sw) none) right
+
+    pub current : (card : Answered w c r) (path : List ℕ) → k.selected ≡ Some path → HasCurrent card.card path
+    current card path e = subst (IsSelected card.card) e (agrees s earlier rules (responses_right s earlier told) card.card card.inside).selected
 
     -- ---- the edit's own
 
@@ -210,6 +215,14 @@ module _ (agrees : KeptAgrees) (s : Script) (rules : keeps_rules s ≡ true) (se
 
       pub own_file : (own.write.update.file ≡ 0) ⊎ (own.write.update.file ≡ 1)
       own_file = file_of_place own.edit own.write.old own.attempt.plan (plan_files own.edit own.write.old.main own.write.old.ext own.attempt.plan own.write.plan) own.write.place own.write.update own.write.at
+
+      -- a FETCH stands in a turn of the framework
+      pub own_card : Answered w c r
+      own_card = answered (by_fetch (is_fetch c) refl)
+        where
+          by_fetch : (b : Bool) → is_fetch c ≡ b → b ≡ false
+          by_fetch false e = refl
+          by_fetch true e = never (sym (ap fetches work) ∙ (fetch_turn k (fetches_first s earlier followed) s a c r h e).0)
 
     -- an UPDATE of the turn writes the next row
     pub record Wrote : Type 0 where
@@ -243,15 +256,16 @@ module _ (agrees : KeptAgrees) (s : Script) (rules : keeps_rules s ≡ true) (se
 
     -- ---- the files of another's edit
 
-    kept_by : is_update c r ≡ false → (f : ℕ) → files_in v f ≡ files_in w f
-    kept_by e f = files_by w v f (view_same w c r card e (family_path f 0)) (view_same w c r card e (family_path f 1))
+    kept_by : is_update c r ≡ false → (f : ℕ) → is_book f ≡ true → (more : List (List ℕ)) → moves_one (facts_of s l k).touch (family_paths f ++ more) ≡ false → files_in v f ≡ files_in w f
+    kept_by e f book more m = files_left s earlier a c r rules (responses_right s earlier told) right e f book more m
 
     -- another family's row
     other_files : (x : Wrote) (f : ℕ) → is_book f ≡ true → ((own x.work).family == f) ≡ false → is_update c r ≡ true → files_in v f ≡ files_in w f
     other_files x f book apart e =
         let o = own x.work in
+        let card = own_card x.work in
         let path : List ℕ = family_path o.family o.write.update.file in
-        let on : OnBasic w c r card path = record { class = ap (λ (d : CommandValue). d.class) x.is; ins = ap (λ (d : CommandValue). d.ins) x.is; now = current path x.selected } in
+        let on : OnBasic w c r card path = record { class = ap (λ (d : CommandValue). d.class) x.is; ins = ap (λ (d : CommandValue). d.ins) x.is; now = current card path x.selected } in
         files_by w v f
         (view_other w c r card path on e (family_path f 0) (books_apart o.family f o.write.update.file 0 (own_book x.work) book apart (own_file x.work) (inl refl)))
         (view_other w c r card path on e (family_path f 1) (books_apart o.family f o.write.update.file 1 (own_book x.work) book apart (own_file x.work) (inr refl)))
@@ -269,7 +283,7 @@ module _ (agrees : KeptAgrees) (s : Script) (rules : keeps_rules s ≡ true) (se
       files_of apart some more m = by_how how
         where
           by_update : (x : Wrote) (u : Bool) → is_update c r ≡ u → files_in v f ≡ files_in w f
-          by_update x false z = kept_by z f
+          by_update x false z = kept_by z f book more m
           by_update x true z = by_family ((own x.work).family == f) refl
             where
               by_family : (g : Bool) → ((own x.work).family == f) ≡ g → files_in v f ≡ files_in w f
@@ -277,11 +291,11 @@ module _ (agrees : KeptAgrees) (s : Script) (rules : keeps_rules s ≡ true) (se
               by_family false y = other_files x f book y z
 
           by_raw_update : has_value is_raw (operation_now s a k.jobs) ≡ true → (u : Bool) → is_update c r ≡ u → files_in v f ≡ files_in w f
-          by_raw_update raw false z = kept_by z f
+          by_raw_update raw false z = kept_by z f book more m
           by_raw_update raw true z = never (sym m ∙ moves_book (facts_of s l k).touch f more book (λ path. raw_moves (is_raw_line s l k.jobs) k.selected c r path z raw))
 
           by_how : How → files_in v f ≡ files_in w f
-          by_how (still z) = kept_by (ap (λ (y : Bool). y && is_success r.sw) z) f
+          by_how (still z) = kept_by (ap (λ (y : Bool). y && is_success r.sw) z) f book more m
           by_how (by_raw raw) = by_raw_update raw (is_update c r) refl
           by_how (by_edit x) = by_update x (is_update c r) refl
 
@@ -296,6 +310,7 @@ module _ (agrees : KeptAgrees) (s : Script) (rules : keeps_rules s ≡ true) (se
       pub other_edit : (i ≡ a → ⊥) → EditAt w k i f e b.epoch b.editing → EditAt v new i f e b.epoch (moved_editing (facts_of s l k).touch b.editing)
       other_edit apart (unplanned x d) = unplanned (ap (attempt_behind (facts_of s l k).touch b.editing.decided) x) d
       other_edit apart (refused d actor came) = absurd (apart (same_of i a (sym actor ∙ turn)))
+      other_edit apart (past x) = past (past_stays l k.history b.epoch x)
       other_edit apart (writing x z y) = edit_left s l w v k i f e (leaves apart (lives_some k.history b.epoch y.lives)) b.epoch b.editing (λ g n m fr. absurd (apart (same_of i a (sym fr.actor ∙ turn)))) (writing x z y)
       other_edit apart (finished d lives owed) = edit_left s l w v k i f e (leaves apart (lives_some k.history b.epoch lives)) b.epoch b.editing (λ g n m fr. absurd (apart (same_of i a (sym fr.actor ∙ turn)))) (finished d lives owed)
 
@@ -318,7 +333,7 @@ module _ (agrees : KeptAgrees) (s : Script) (rules : keeps_rules s ≡ true) (se
 
         idle_leaves : Leaves s l w v k i f
         idle_leaves = record {
-          files = λ more m. kept_by unwritten f;
+          files = λ more m. kept_by unwritten f book more m;
           lives = λ o z. z;
           refused = λ actor came. (turn_same, came_same came);
         }
@@ -348,7 +363,7 @@ module _ (agrees : KeptAgrees) (s : Script) (rules : keeps_rules s ≡ true) (se
             by_does : Does s w k work (own work) c → EditAt v new i f e b.epoch (moved_editing (facts_of s l k).touch b.editing)
             by_does (writes_row is selected chain) = never (sym idle ∙ ap (λ (d : CommandValue). is_update_ins d.ins) is)
             by_does (selects_file first ex waits stage) = by_came (subst (λ (n : ℕ). IsActive s v (kept_after s (line.Exchange n c r) k) ⊎ ((is_over (kept_after s (line.Exchange n c r) k).turn.stage ≡ true) × (is_some (kept_after s (line.Exchange n c r) k).turn.outcome ≡ true))) (own_actor work)
-                (select_came_to s w k work (own work) (own_book work) c r card first ex waits stage))
+                (select_came_to s w k work (own work) (own_book work) c r (own_card work) first ex waits stage))
               where
                 by_came : IsActive s v new ⊎ ((is_over new.turn.stage ≡ true) × (is_some new.turn.outcome ≡ true)) → EditAt v new i f e b.epoch (moved_editing (facts_of s l k).touch b.editing)
                 by_came (inl z) = left (λ m n o fr. record { actor = turn_same; work = work_same ∙ work; goes = fresh_of s v new z }) (writing g x y)
@@ -358,6 +373,7 @@ module _ (agrees : KeptAgrees) (s : Script) (rules : keeps_rules s ≡ true) (se
         idle_edit (unplanned x d) = unplanned (ap (attempt_behind (facts_of s l k).touch b.editing.decided) x) d
         idle_edit (refused d actor came) = refused d turn_same (came_same came)
         idle_edit (finished d lives owed) = finished_left s l w v k i f e idle_leaves b.epoch b.editing d lives owed
+        idle_edit (past x) = past (past_stays l k.history b.epoch x)
         idle_edit (writing g x y) = by_sent (g.sent == 0) refl
           where
             by_sent : (z : Bool) → (g.sent == 0) ≡ z → EditAt v new i f e b.epoch (moved_editing (facts_of s l k).touch b.editing)

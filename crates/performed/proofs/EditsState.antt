@@ -32,6 +32,7 @@ use Rattle.rules.specs.Sessions.{lacking_key}
 use Rattle.rules.specs.After.{edit_of, facts_of, kept_after}
 use Rattle.rules.specs.State.{view_in}
 use Rattle.performed.proofs.CalmKinds.{IsExchangeOf}
+use Rattle.performed.proofs.EpochPast.{IsPast, past_stays}
 use Rattle.performed.proofs.EditsPlan.{Place, update_at, sent_at, is_back, files_at, next_at}
 
 -- ---- what is known of an edit
@@ -78,6 +79,8 @@ pub data EditAt (w : World) (k : Kept) (i f : ℕ) (e : Edit) (epoch : Option �
   refused : editing.decided ≡ None → k.turn.actor ≡ Some i → is_some k.turn.outcome ≡ true → EditAt w k i f e epoch editing
   -- decided, and nothing is left to send
   finished : is_some editing.decided ≡ true → lives_in k.history epoch ≡ true → owed_of true editing.attempt ≡ None → EditAt w k i f e epoch editing
+  -- its epoch has ended
+  past : IsPast k.history epoch → EditAt w k i f e epoch editing
 
 pub next_is : (w : World) (k : Kept) (i f : ℕ) (e : Edit) (epoch : Option ℕ) (decided : Option Decided) (a : Attempt) (t : IsWriting w k i f e epoch decided a) → next_update a ≡ Some t.update
 next_is w k i f e epoch decided a t = ap (slice_get (plan_updates a.plan)) t.sent ∙ next_at a.plan t.place t.update t.at
@@ -125,7 +128,7 @@ pub record Edited (s : Script) (w : World) (k : Kept) : Type 0 where
 
 -- ---- what a line does to every edit
 
--- what it leaves, for the edit of an actor
+-- what it leaves, for the edit of an actor, where it ends no epoch
 pub record Leaves (s : Script) (l : Line) (w v : World) (k : Kept) (i f : ℕ) : Type 0 where
   pub files : (rest : List (List ℕ)) → moves_one (facts_of s l k).touch (family_paths f ++ rest) ≡ false → files_in v f ≡ files_in w f
   pub lives : (epoch : Option ℕ) → lives_in k.history epoch ≡ true → lives_in (kept_after s l k).history epoch ≡ true
@@ -190,6 +193,7 @@ module _ (s : Script) (l : Line) (w v : World) (k : Kept) (i f : ℕ) (e : Edit)
   edit_left editing going (writing a h q) = writing_by editing a (moves_one touch a.paths) h q refl going
   edit_left editing going (refused d actor came) = let r = t.refused actor came in refused d r.0 r.1
   edit_left editing going (finished d lives owed) = finished d (t.lives epoch lives) (owed_none editing.decided editing.attempt d owed)
+  edit_left editing going (past x) = past (past_stays l k.history epoch x)
 
 -- ---- what moves nothing
 

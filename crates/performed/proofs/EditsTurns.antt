@@ -41,7 +41,8 @@ use Rattle.performed.proofs.ProgressBegins.{Starts}
 use Rattle.performed.proofs.TurnsJobs.{is_own}
 use Rattle.performed.proofs.TurnsSays.{IsDone, BeginsNow}
 use Rattle.performed.proofs.EditsLines.{decides_edit, done_unfresh, done_unrefused, living_lives, IsBare, bare_of, turn_lacks, begin_lacks}
-use Rattle.performed.proofs.EditsState.{unplanned, writing, refused, finished}
+use Rattle.performed.proofs.EditsState.{unplanned, writing, refused, finished, past}
+use Rattle.performed.proofs.EpochPast.{past_stays}
 
 module _ (agrees : KeptAgrees) (plans : PlansForCard) (s : Script) (rules : keeps_rules s ≡ true) (served : serves s ≡ true) (earlier : List Line) (followed : are_followed s earlier ≡ true) (told : are_told s earlier ≡ true) (t : Edited s (world_of s earlier) (kept_of s earlier)) where
   abbrev k : Kept
@@ -84,6 +85,7 @@ module _ (agrees : KeptAgrees) (plans : PlansForCard) (s : Script) (rules : keep
         })
         by_edit (refused d actor came) = absurd (done_unrefused s w k t done i b f e here op d actor came)
         by_edit (finished d h owed) = finished d (lives b.epoch ∙ h) owed
+        by_edit (past x) = past (past_stays l k.history b.epoch x)
 
     rested_now : (i : ℕ) (b now : Begun) (f : ℕ) (e : Edit) → begun_of i k.jobs ≡ Some b → now ≡ near s l k b → edit_of (operation_at s i now.index) ≡ Some (f, e) → EditAt w (kept_after s l k) i f e now.epoch now.editing
     rested_now i b now f e here is op = subst (λ (x : Begun). EditAt w (kept_after s l k) i f e x.epoch x.editing) (sym is) (rested i b f e here (ap (λ (x : Begun). edit_of (operation_at s i x.index)) (sym is) ∙ op))
@@ -102,6 +104,7 @@ module _ (agrees : KeptAgrees) (plans : PlansForCard) (s : Script) (rules : keep
         unsent = bare.unsent;
         work = work;
         lives = lives;
+        over = past_stays l k.history;
         lacks = lacks;
         here = here;
         editing = ap (λ (x : Begun). x.editing) is;

@@ -31,6 +31,7 @@ pub mod EditsCard
 pub mod EditsDecides
 pub mod EditsUndying
 pub mod EditsPlan
+pub mod EpochPast
 pub mod EditsState
 pub mod EditsSends
 pub mod EditsSteps
