@@ -119,9 +119,9 @@ module _ (agrees : KeptAgrees) (plans : PlansForCard) (s : Script) (rules : keep
       }
 
   -- how far an edit is whose turn begins, and what that turn has to write
-  record TurnEdit (l : Line) (i f : ℕ) (e : Edit) (now : Begun) : Type 0 where
-    edit : EditAt w (kept_after s l k) i f e now.epoch now.editing
-    active : (kept_after s l k).turn.actor ≡ Some i → (kept_after s l k).turn.work ≡ writes → IsActive s w (kept_after s l k)
+  pub record TurnEdit (l : Line) (i f : ℕ) (e : Edit) (now : Begun) : Type 0 where
+    pub edit : EditAt w (kept_after s l k) i f e now.epoch now.editing
+    pub active : (kept_after s l k).turn.actor ≡ Some i → (kept_after s l k).turn.work ≡ writes → IsActive s w (kept_after s l k)
 
   module _ (l : Line) (i f : ℕ) (e : Edit) (book : is_book f ≡ true) (b now : Begun) (work : (kept_after s l k).turn.work ≡ (decision_at s l k).work) (x : IsBegun s w k (kept_after s l k) i f e (decision_at s l k) b.editing b.epoch now) where
     begins_here : TurnEdit l i f e now
@@ -159,7 +159,7 @@ module _ (agrees : KeptAgrees) (plans : PlansForCard) (s : Script) (rules : keep
         refl (record { stage = refl; came = refl; unsent = refl }) refl refl (turn_lacks s k (suc a) (suc a)) there
         (is ∙ ap (λ (x : Editing). begun_with (decision_at s mark k).attempt (record (near s mark k b) { editing = x })) (editing_same mark done quiet_mark mark_lives b.editing)))
 
-    mark_edit : (i : ℕ) (now : Begun) (f : ℕ) (e : Edit) → begun_of i (kept_after s mark k).jobs ≡ Some now → edit_of (operation_at s i now.index) ≡ Some (f, e) → Came s mark k i now → TurnEdit mark i f e now
+    pub mark_edit : (i : ℕ) (now : Begun) (f : ℕ) (e : Edit) → begun_of i (kept_after s mark k).jobs ≡ Some now → edit_of (operation_at s i now.index) ≡ Some (f, e) → Came s mark k i now → TurnEdit mark i f e now
     mark_edit i now f e there op (stays b here other is) = record { edit = rested_now mark done quiet_mark mark_lives i b now f e here is op; active = λ actor h. absurd (own_is a i mark refl other actor) }
     mark_edit i now f e there op (marks c b own l here is) =
         let q : line.Turn (suc c) ≡ line.Turn (suc a) = sym l in
@@ -182,7 +182,7 @@ module _ (agrees : KeptAgrees) (plans : PlansForCard) (s : Script) (rules : keep
     idle_lives None = refl
     idle_lives (Some n) = refl
 
-    idle_edit : (i : ℕ) (now : Begun) (f : ℕ) (e : Edit) → edit_of (operation_at s i now.index) ≡ Some (f, e) → Came s idle k i now → EditAt w (kept_after s idle k) i f e now.epoch now.editing
+    pub idle_edit : (i : ℕ) (now : Begun) (f : ℕ) (e : Edit) → edit_of (operation_at s i now.index) ≡ Some (f, e) → Came s idle k i now → EditAt w (kept_after s idle k) i f e now.epoch now.editing
     idle_edit i now f e op (stays b here other is) = rested_now idle done (λ path. refl) idle_lives i b now f e here is op
     idle_edit i now f e op (marks c b own l here is) = absurd (cc)
     idle_edit i now f e op (begins c n own l is) = absurd (cc)
@@ -211,7 +211,7 @@ module _ (agrees : KeptAgrees) (plans : PlansForCard) (s : Script) (rules : keep
         (λ d actor h. let came = (bare_of s earlier start.bare).came in true≢false (sym h ∙ ap is_some came))
         start.turn bare_now refl refl (begin_lacks s k a n a) there is)
 
-    front_edit : (i : ℕ) (now : Begun) (f : ℕ) (e : Edit) → begun_of i (kept_after s front k).jobs ≡ Some now → edit_of (operation_at s i now.index) ≡ Some (f, e) → Came s front k i now → TurnEdit front i f e now
+    pub front_edit : (i : ℕ) (now : Begun) (f : ℕ) (e : Edit) → begun_of i (kept_after s front k).jobs ≡ Some now → edit_of (operation_at s i now.index) ≡ Some (f, e) → Came s front k i now → TurnEdit front i f e now
     front_edit i now f e there op (stays b here other is) = record { edit = rested_now front now_begins.done (λ path. refl) front_lives i b now f e here is op; active = λ actor h. absurd (front_own other (sym start.turn ∙ actor)) }
       where
         front_own : (is_own i front ≡ false) ⊎ (front ≡ line.Turn zero) → Some a ≡ Some i → ⊥

@@ -72,8 +72,7 @@ use Rattle.performed.proofs.CalmKinds.{Sends, Fits, WorkFits, IsEdits, is_writer
 use Rattle.performed.proofs.CalmLent.{sent_of}
 use Rattle.performed.proofs.CalmLines.{sends_of, turn_by, turn_of, turn_is}
 use Rattle.performed.proofs.CalmRest.{told_response, responses_right}
-use Rattle.performed.proofs.CalmSends.{never, exchange_of_turn, exchange_update, world_insertion}
-use Rattle.performed.proofs.CalmShown.{unarmed_of, never_failed}
+use Rattle.performed.proofs.CalmSends.{never, exchange_of_turn, exchange_update}
 use Rattle.performed.proofs.EditsBegun.{near, Came, stays, marks, begins, exchanges, fails, came}
 use Rattle.performed.proofs.EditsCard.{Answered, answered_of, view_same, view_other, OnBasic}
 use Rattle.performed.proofs.EditsMarks.{refused_answers, IsBegun, Begins, turn_begins}
@@ -82,12 +81,17 @@ use Rattle.performed.proofs.EditsScript.{IsEdit, edit_is, Edits, sets, clears, e
 use Rattle.performed.proofs.EditsSends.{is_book, Does, writes_row, selects_file, does, sends_still}
 use Rattle.performed.proofs.EditsState.{files_in, is_over, IsFresh, IsWriting, EditAt, IsActive, Edited, Leaves, edit_left, unmoved_attempt}
 use Rattle.performed.proofs.EditsSteps.{books_apart, file_of_place, exchanged_same, select_came_to, update_over, updated_edit, now_there}
-use Rattle.performed.proofs.EditsUndying.{Undying, undying_of, is_resetting_stage}
+use Rattle.performed.proofs.EpochBegun.{first_begun}
+use Rattle.performed.proofs.EpochFiles.{files_armed}
+use Rattle.performed.proofs.EpochOver.{ended_over}
+use Rattle.performed.proofs.EpochSince.{begun_past}
+use Rattle.rules.specs.Rules.{has_right_response}
+use Rattle.rules.specs.History.{is_epoch_border}
 use Rattle.performed.proofs.ProgressBegins.{Starts, starts}
 use Rattle.performed.proofs.TurnsJobs.{is_own}
 use Rattle.performed.proofs.TurnsSays.{IsDone, turn_done, BeginsNow, begins_now, says_of}
 use Rattle.performed.proofs.EditsLines.{behind_command, Origin, was, newly, origin, decides_edit, done_unfresh, done_unrefused, moves_book, files_by, living_lives, fresh_lives, Writer, writer_of, sends_on, IsBare, bare_of, turn_lacks, begin_lacks, turn_work, turn_came}
-use Rattle.performed.proofs.EditsState.{unplanned, writing, refused, finished}
+use Rattle.performed.proofs.EditsState.{unplanned, writing, refused, finished, past}
 use Rattle.performed.proofs.JobPlaces.{job_count, begun_there}
 use Rattle.std.proofs.lemmas.Bool.{not-true}
 use Rattle.apdu.specs.Apdu.{is_success}
@@ -104,12 +108,11 @@ use Rattle.card_model.specs.Step.{after_event}
 use Rattle.rules.specs.State.{world_after}
 use Rattle.rules.specs.Rules.{is_begun_at}
 use Rattle.rules.specs.Performed.{is_reset, is_end_told}
-use Rattle.performed.proofs.EditsUndying.{not_living}
 use Rattle.rules.specs.Due.{is_resetting, reset_by_stage}
 use Rattle.rules.specs.Work.{is_finished}
 use Rattle.performed.proofs.EditsTurns.{mark_edit, front_edit}
 use Rattle.performed.proofs.EditsTurns as turns
-use Rattle.performed.proofs.EditsKept.{Wrote, How, still, by_raw, by_edit, how, raw_edits, other_edit, idle_edit, own, own_actor, own_book, own_does, card, current}
+use Rattle.performed.proofs.EditsKept.{Wrote, How, still, by_raw, by_edit, how, raw_edits, other_edit, idle_edit, own, own_actor, own_book, own_does, own_card, current}
 
 module _ (agrees : KeptAgrees) (plans : PlansForCard) (s : Script) (rules : keeps_rules s ≡ true) (served : serves s ≡ true) (earlier : List Line) (followed : are_followed s earlier ≡ true) (told : are_told s earlier ≡ true) (t : Edited s (world_of s earlier) (kept_of s earlier)) where
   abbrev k : Kept
@@ -194,7 +197,7 @@ module _ (agrees : KeptAgrees) (plans : PlansForCard) (s : Script) (rules : keep
 
   -- ---- an exchange
 
-  module _ (a : ℕ) (c : CommandValue) (r : ResponseValue) (h : is_followed s k (line.Exchange a c r) ≡ true) (q : is_told s w k (line.Exchange a c r) ≡ true) where
+  module _ (a : ℕ) (c : CommandValue) (r : ResponseValue) (h : is_followed s k (line.Exchange a c r) ≡ true) (q : has_right_response w (line.Exchange a c r) ≡ true) where
     abbrev l : Line
     l = line.Exchange a c r
 
@@ -212,22 +215,22 @@ module _ (agrees : KeptAgrees) (plans : PlansForCard) (s : Script) (rules : keep
     wrote_edit x i b f e mine here op =
         let o = own agrees s rules served earlier followed told t a c r h q x.work in
         let who : o.who ≡ a = own_actor agrees s rules served earlier followed told t a c r h q x.work in
-        let at = updated_edit s w k x.work o (own_book agrees s rules served earlier followed told t a c r h q x.work) c r (card agrees s rules served earlier followed told t a c r h q) x.is x.selected x.chain (current agrees s rules served earlier followed told t a c r h q (family_path o.family o.write.update.file) x.selected) in
-        let there = now_there s w k x.work o (own_book agrees s rules served earlier followed told t a c r h q x.work) c r (card agrees s rules served earlier followed told t a c r h q) in
+        let at = updated_edit s w k x.work o (own_book agrees s rules served earlier followed told t a c r h q x.work) c r (own_card agrees s rules served earlier followed told t a c r h q x.work) x.is x.selected x.chain (current agrees s rules served earlier followed told t a c r h q (own_card agrees s rules served earlier followed told t a c r h q x.work) (family_path o.family o.write.update.file) x.selected) in
+        let there = now_there s w k x.work o (own_book agrees s rules served earlier followed told t a c r h q x.work) c r (own_card agrees s rules served earlier followed told t a c r h q x.work) in
         by_who o who at there
       where
         by_begun : (n m : Begun) → Some n ≡ Some m → n ≡ m
         by_begun n m z = cc
 
-        by_pair : (f g : ℕ) (e d : Edit) → Some (f, e) ≡ Some (g, d) → (f, e) ≡ (g, d)
-        by_pair f g e d z = cc
+        by_pair : (p q : ℕ × Edit) → Some p ≡ Some q → p ≡ q
+        by_pair p q z = cc
 
         by_who : (o : IsActive s w k) → o.who ≡ a → EditAt v (kept_after s (line.Exchange o.who c r) k) o.who o.family o.edit o.begun.epoch (now_of o o.who).editing → begun_of o.who (kept_after s (line.Exchange o.who c r) k).jobs ≡ Some (now_of o o.who) → EditAt v new i f e b.epoch b.editing
         by_who o who at there =
             let at_a = subst (λ (n : ℕ). EditAt v (kept_after s (line.Exchange n c r) k) n o.family o.edit o.begun.epoch (now_of o n).editing) who at in
             let there_a = subst (λ (n : ℕ). begun_of n (kept_after s (line.Exchange n c r) k).jobs ≡ Some (now_of o n)) who there in
             let same : now_of o a ≡ b = by_begun (now_of o a) b (sym there_a ∙ subst (λ (n : ℕ). begun_of n new.jobs ≡ Some b) (sym mine) here) in
-            let pair : (o.family, o.edit) ≡ (f, e) = by_pair o.family f o.edit e
+            let pair = by_pair (o.family, o.edit) (f, e)
                 (sym (subst (λ (n : ℕ). edit_of (operation_at s n o.begun.index) ≡ Some (o.family, o.edit)) who o.op)
                 ∙ ap (λ (x : Begun). edit_of (operation_at s a x.index)) same
                 ∙ subst (λ (n : ℕ). edit_of (operation_at s n b.index) ≡ Some (f, e)) (sym mine) op) in
@@ -288,9 +291,9 @@ module _ (agrees : KeptAgrees) (plans : PlansForCard) (s : Script) (rules : keep
         is_open b x y = true≢false (sym y ∙ sym x ∙ goes)
 
         by_does : Does s w k before (own agrees s rules served earlier followed told t a c r h q before) c → IsActive s v new
-        by_does (writes_row is selected chain) = absurd (is_open true (subst (λ (n : ℕ). is_over (kept_after s (line.Exchange n c r) k).turn.stage ≡ true) who (update_over s w k before (own agrees s rules served earlier followed told t a c r h q before) (own_book agrees s rules served earlier followed told t a c r h q before) c r (card agrees s rules served earlier followed told t a c r h q) is selected chain)) refl)
+        by_does (writes_row is selected chain) = absurd (is_open true (subst (λ (n : ℕ). is_over (kept_after s (line.Exchange n c r) k).turn.stage ≡ true) who (update_over s w k before (own agrees s rules served earlier followed told t a c r h q before) (own_book agrees s rules served earlier followed told t a c r h q before) c r (own_card agrees s rules served earlier followed told t a c r h q before) is selected chain)) refl)
         by_does (selects_file first x waits stage) = by_came (subst (λ (n : ℕ). IsActive s v (kept_after s (line.Exchange n c r) k) ⊎ ((is_over (kept_after s (line.Exchange n c r) k).turn.stage ≡ true) × (is_some (kept_after s (line.Exchange n c r) k).turn.outcome ≡ true))) who
-            (select_came_to s w k before (own agrees s rules served earlier followed told t a c r h q before) (own_book agrees s rules served earlier followed told t a c r h q before) c r (card agrees s rules served earlier followed told t a c r h q) first x waits stage))
+            (select_came_to s w k before (own agrees s rules served earlier followed told t a c r h q before) (own_book agrees s rules served earlier followed told t a c r h q before) c r (own_card agrees s rules served earlier followed told t a c r h q before) first x waits stage))
           where
             by_came : IsActive s v new ⊎ ((is_over new.turn.stage ≡ true) × (is_some new.turn.outcome ≡ true)) → IsActive s v new
             by_came (inl z) = z
@@ -302,6 +305,15 @@ module _ (agrees : KeptAgrees) (plans : PlansForCard) (s : Script) (rules : keep
       active = exchange_active;
       alone = alone_now l h;
     }
+
+  -- ---- a line between two epochs
+
+  border_edited : (l : Line) (v : World) → is_epoch_border l ≡ true → is_followed s k l ≡ true → is_over (kept_after s l k).turn.stage ≡ true → Edited s v (kept_after s l k)
+  border_edited l v border h ends = record {
+    edits = λ i b f e here op. past (begun_past s earlier l border i b here);
+    active = λ work goes. absurd (true≢false (sym ends ∙ goes));
+    alone = alone_now l h;
+  }
 
   -- ---- a line that moves nothing, and sends nothing
 
@@ -319,16 +331,13 @@ module _ (agrees : KeptAgrees) (plans : PlansForCard) (s : Script) (rules : keep
   keeps_begun (line.Refused f n) = true
   keeps_begun (line.Answered x n given) = true
 
-  module _ (l : Line) (v : World) (h : is_followed s k l ≡ true) (silent : due_command k ≡ None) (files : (f : ℕ) (more : List (List ℕ)) → is_book f ≡ true → moves_one (facts_of s l k).touch (family_paths f ++ more) ≡ false → files_in v f ≡ files_in w f) (lives : (o : Option ℕ) → lives_in k.history o ≡ true → lives_in (kept_after s l k).history o ≡ true) (actor : (kept_after s l k).turn.actor ≡ k.turn.actor) (outcome : (kept_after s l k).turn.outcome ≡ k.turn.outcome) where
-    silent_fresh : (i : ℕ) → IsFresh k.turn i → ⊥
-    silent_fresh i z = true≢false (sym (sends_still s w k z.work (t.active z.work z.goes)) ∙ ap is_some silent)
-
+  module _ (l : Line) (v : World) (h : is_followed s k l ≡ true) (silent : (i : ℕ) → IsFresh k.turn i → ⊥) (files : (f : ℕ) → files_in v f ≡ files_in w f) (lives : (o : Option ℕ) → lives_in k.history o ≡ true → lives_in (kept_after s l k).history o ≡ true) (actor : (kept_after s l k).turn.actor ≡ k.turn.actor) (outcome : (kept_after s l k).turn.outcome ≡ k.turn.outcome) where
     silent_edit : (i : ℕ) (b : Begun) (f : ℕ) (e : Edit) → begun_of i k.jobs ≡ Some b → edit_of (operation_at s i b.index) ≡ Some (f, e) → EditAt v (kept_after s l k) i f e b.epoch (moved_editing (facts_of s l k).touch b.editing)
     silent_edit i b f e here op = edit_left s l w v k i f e (record {
-      files = λ more m. files f more (edit_book s rules i b.index f e op) m;
+      files = λ more m. files f;
       lives = lives;
       refused = λ own came. (actor ∙ own, ap is_some outcome ∙ came);
-    }) b.epoch b.editing (λ g x n fr. absurd (silent_fresh i fr)) (t.edits i b f e here op)
+    }) b.epoch b.editing (λ g x n fr. absurd (silent i fr)) (t.edits i b f e here op)
 
     silent_now : (i : ℕ) (b : Begun) (f : ℕ) (e : Edit) → edit_of (operation_at s i b.index) ≡ Some (f, e) → Came s l k i b → keeps_begun l ≡ true → EditAt v (kept_after s l k) i f e b.epoch b.editing
     silent_now i b f e op (stays b0 there other is) kept = subst (λ (x : Begun). EditAt v (kept_after s l k) i f e x.epoch x.editing) (sym is) (silent_edit i b0 f e there (ap (λ (x : Begun). edit_of (operation_at s i x.index)) (sym is) ∙ op))
@@ -346,11 +355,13 @@ module _ (agrees : KeptAgrees) (plans : PlansForCard) (s : Script) (rules : keep
 
   -- ---- every line
 
-  resets_by : (x : Work) (stage : Stage) → is_resetting x ≡ false → is_resetting_stage stage ≡ false → reset_by_stage x stage ≡ false
-  resets_by x fresh h g = h
-  resets_by x (next c) h g = refl
-  resets_by x resetting h g = absurd (true≢false g)
-  resets_by x over h g = refl
+  -- no command is due
+  unsent_fresh : due_command k ≡ None → k.turn.work ≡ writes → is_over k.turn.stage ≡ false → ⊥
+  unsent_fresh none work goes = true≢false (sym (sends_still s w k work (t.active work goes)) ∙ ap is_some none)
+
+  -- the end of an epoch is to be told
+  ending_over : (o : Option (ℕ × ℕ)) → k.turn.ended ≡ o → is_some o ≡ true → is_over k.turn.stage ≡ true
+  ending_over o e some = ended_over s earlier followed (ap is_some e ∙ some)
 
   published_silent : (n f e v : ℕ) (text : List ℕ) (d : Due) → due s k ≡ d → is_published k n f e v text d ≡ true → due_command k ≡ None
   published_silent n f e v text (publish g) is h = behind_command s k (publish g) is refl
@@ -369,48 +380,37 @@ module _ (agrees : KeptAgrees) (plans : PlansForCard) (s : Script) (rules : keep
   told_silent f n (tell_refusal g m) is h = behind_command s k (tell_refusal g m) is refl
   told_silent f n d is h = never h
 
-  undying : Undying k
-  undying = undying_of s earlier rules served followed told
+  end_over : (n e v : ℕ) (d : Due) → due s k ≡ d → is_end_told k n e v d ≡ true → is_over k.turn.stage ≡ true
+  end_over n e v (tell_end x y) is h = ending_over (Some (x, y)) (says_of s k (tell_end x y) is) refl
+  end_over n e v d is h = never h
 
-  ends_never : (n e v : ℕ) (d : Due) → due s k ≡ d → is_end_told k n e v d ≡ true → ⊥
-  ends_never n e v (tell_end x y) is h = absurd (let q : Some (x, y) ≡ None = sym (says_of s k (tell_end x y) is) ∙ undying.turn.ended in cc)
-  ends_never n e v d is h = true≢false (sym h)
-
-  resets_never : (d : Due) → due s k ≡ d → is_reset d ≡ true → ⊥
-  resets_never reset_card is h = true≢false (sym (says_of s k reset_card is) ∙ resets_by k.turn.work k.turn.stage undying.turn.work undying.turn.stage)
-  resets_never d is h = true≢false (sym h)
+  world_edited : (a : ℕ) (e : WorldEvent) → is_followed s k (line.World a e) ≡ true → Edited s (after_event w e) (kept_after s (line.World a e) k)
+  world_edited a Out h = border_edited (line.World a Out) (after_event w Out) refl h refl
+  world_edited a (Insert j) h = border_edited (line.World a (Insert j)) (after_event w (Insert j)) refl h refl
+  world_edited a (Arm i) h =
+      let silent = tried_silent (Arm i) (due s k) refl (and_parts (is_turn_of a k.turn) (is_tried (Arm i) (due s k)) h).1 in
+      silent_edited (line.World a (Arm i)) (after_event w (Arm i)) h (λ i z. unsent_fresh silent z.work z.goes) (files_armed w i) (λ o z. z) refl refl refl (λ work goes. true≢false goes)
 
   line_edited : (l : Line) → is_followed s k l ≡ true → is_told s w k l ≡ true → Edited s (world_after l w) (kept_after s l k)
   line_edited (line.Turn a) h q = mark_edited a h
   line_edited (line.Begin a n) h q = begin_edited a n h
-  line_edited (line.Exchange a c r) h q = exchange_edited a c r h q
-  line_edited (line.Failed a c d) h q = absurd (never_failed s w k a c d served q)
-  line_edited (line.Reset a) h q = absurd (resets_never (due s k) refl (and_parts (is_turn_of a k.turn) (is_reset (due s k)) h).1)
-  line_edited (line.ResetFailed a) h q = absurd (resets_never (due s k) refl (and_parts (is_turn_of a k.turn) (is_reset (due s k)) h).1)
-  line_edited (line.EpochEnd n e v) h q = absurd (ends_never n e v (due s k) refl h)
-  line_edited (line.World a Out) h q = dead (world_insertion s k a Out (sends_of s earlier served followed) h)
-  line_edited (line.World a (Arm i)) h q = dead (world_insertion s k a (Arm i) (sends_of s earlier served followed) h)
-  line_edited (line.World a (Insert j)) h q =
-      silent_edited (line.World a (Insert j)) (after_event w (Insert j)) h
-      (tried_silent (Insert j) (due s k) refl (and_parts (is_turn_of a k.turn) (is_tried (Insert j) (due s k)) h).1)
-      (λ f more book m. never (sym m ∙ moves_book (facts_of s (line.World a (Insert j)) k).touch f more book (λ path. refl)))
-      (λ o z. absurd (fresh_lives k.history o true z (not_living s rules served earlier followed told undying j q)))
-      refl refl refl (λ work goes. true≢false goes)
+  line_edited (line.Exchange a c r) h q = exchange_edited a c r h (told_response s w k (line.Exchange a c r) q)
+  line_edited (line.Failed a c d) h q = border_edited (line.Failed a c d) (world_after (line.Failed a c d) w) refl h refl
+  line_edited (line.Reset a) h q = border_edited (line.Reset a) (world_after (line.Reset a) w) refl h refl
+  line_edited (line.ResetFailed a) h q = border_edited (line.ResetFailed a) (world_after (line.ResetFailed a) w) refl h refl
+  line_edited (line.World a e) h q = world_edited a e h
+  line_edited (line.EpochEnd n e v) h q =
+      let ends = end_over n e v (due s k) refl h in
+      silent_edited (line.EpochEnd n e v) w h (λ i z. true≢false (sym ends ∙ z.goes)) (λ f. refl) (λ o z. z) refl refl refl (λ work goes. true≢false (sym ends ∙ goes))
   line_edited (line.Published n f e v text) h q =
-      silent_edited (line.Published n f e v text) w h (published_silent n f e v text (due s k) refl h) (λ g more book m. refl) (λ o z. z) refl refl refl (λ work goes. true≢false goes)
+      let silent = published_silent n f e v text (due s k) refl h in
+      silent_edited (line.Published n f e v text) w h (λ i z. unsent_fresh silent z.work z.goes) (λ g. refl) (λ o z. z) refl refl refl (λ work goes. true≢false goes)
   line_edited (line.Answered a i given) h q =
-      silent_edited (line.Answered a i given) w h
-      (given_silent given (due s k) refl (and_parts (is_begun_at i (begun_of a k.jobs)) (is_given_or_refused given (due s k)) (and_parts (is_turn_of a k.turn) (is_begun_at i (begun_of a k.jobs) && is_given_or_refused given (due s k)) h).1).1)
-      (λ g more book m. refl) (λ o z. z) refl refl refl (λ work goes. true≢false goes)
+      let silent = given_silent given (due s k) refl (and_parts (is_begun_at i (begun_of a k.jobs)) (is_given_or_refused given (due s k)) (and_parts (is_turn_of a k.turn) (is_begun_at i (begun_of a k.jobs) && is_given_or_refused given (due s k)) h).1).1 in
+      silent_edited (line.Answered a i given) w h (λ i z. unsent_fresh silent z.work z.goes) (λ g. refl) (λ o z. z) refl refl refl (λ work goes. true≢false goes)
   line_edited (line.Refused f n) h q =
       let silent = told_silent f n (due s k) refl (and_parts (is_turn_of 0 k.turn) (is_refusal_told f n (due s k)) h).1 in
-      silent_edited (line.Refused f n) w h silent (λ g more book m. refl) (λ o z. z) refl refl refl
-      (λ work goes. true≢false (sym (sends_still s w k work (t.active work goes)) ∙ ap is_some silent))
-
-first_begun : (n i : ℕ) → begun_of i (replicate n first_job) ≡ None
-first_begun zero i = refl
-first_begun (suc n) zero = refl
-first_begun (suc n) (suc i) = first_begun n i
+      silent_edited (line.Refused f n) w h (λ i z. unsent_fresh silent z.work z.goes) (λ g. refl) (λ o z. z) refl refl refl (unsent_fresh silent)
 
 none_first : (s : Script) (i : ℕ) (b : Begun) → begun_of i (kept_of s []).jobs ≡ Some b → ⊥
 none_first s i b h = let n = first_begun (actor_count s + 1) i in let q : Some b ≡ None = sym h ∙ n in cc

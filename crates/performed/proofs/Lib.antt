@@ -41,6 +41,8 @@ pub mod EditsLines
 pub mod EditsTurns
 pub mod EditsKept
 pub mod EditsRule
+pub mod EpochSince
+pub mod EpochOver
 pub mod EditsWhole
 pub mod CalmManage
 pub mod CalmHeld
