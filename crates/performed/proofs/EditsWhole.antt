@@ -73,7 +73,7 @@ use Rattle.performed.proofs.CalmLent.{sent_of}
 use Rattle.performed.proofs.CalmLines.{sends_of, turn_by, turn_of, turn_is}
 use Rattle.performed.proofs.CalmRest.{told_response, responses_right}
 use Rattle.performed.proofs.CalmSends.{never, exchange_of_turn, exchange_update}
-use Rattle.performed.proofs.EditsBegun.{near, Came, stays, marks, begins, exchanges, fails, came}
+use Rattle.performed.proofs.EditsBegun.{near, Came, stays, marks, begins, exchanges, fails, came, keeps_begun, IsNear, near_of}
 use Rattle.performed.proofs.EditsCard.{Answered, answered_of, view_same, view_other, OnBasic}
 use Rattle.performed.proofs.EditsMarks.{refused_answers, IsBegun, Begins, turn_begins}
 use Rattle.performed.proofs.EditsPlan.{plan_files}
@@ -317,20 +317,6 @@ module _ (agrees : KeptAgrees) (plans : PlansForCard) (s : Script) (rules : keep
 
   -- ---- a line that moves nothing, and sends nothing
 
-  -- a line of no actor's command, nor of its mark
-  abbrev keeps_begun : Line → Bool
-  keeps_begun (line.Turn x) = false
-  keeps_begun (line.Begin x n) = false
-  keeps_begun (line.Exchange x c r) = false
-  keeps_begun (line.Failed x c d) = false
-  keeps_begun (line.Reset x) = true
-  keeps_begun (line.ResetFailed x) = true
-  keeps_begun (line.World x e) = true
-  keeps_begun (line.Published n f e v text) = true
-  keeps_begun (line.EpochEnd n e v) = true
-  keeps_begun (line.Refused f n) = true
-  keeps_begun (line.Answered x n given) = true
-
   module _ (l : Line) (v : World) (h : is_followed s k l ≡ true) (silent : (i : ℕ) → IsFresh k.turn i → ⊥) (files : (f : ℕ) → files_in v f ≡ files_in w f) (lives : (o : Option ℕ) → lives_in k.history o ≡ true → lives_in (kept_after s l k).history o ≡ true) (actor : (kept_after s l k).turn.actor ≡ k.turn.actor) (outcome : (kept_after s l k).turn.outcome ≡ k.turn.outcome) where
     silent_edit : (i : ℕ) (b : Begun) (f : ℕ) (e : Edit) → begun_of i k.jobs ≡ Some b → edit_of (operation_at s i b.index) ≡ Some (f, e) → EditAt v (kept_after s l k) i f e b.epoch (moved_editing (facts_of s l k).touch b.editing)
     silent_edit i b f e here op = edit_left s l w v k i f e (record {
@@ -339,16 +325,12 @@ module _ (agrees : KeptAgrees) (plans : PlansForCard) (s : Script) (rules : keep
       refused = λ own came. (actor ∙ own, ap is_some outcome ∙ came);
     }) b.epoch b.editing (λ g x n fr. absurd (silent i fr)) (t.edits i b f e here op)
 
-    silent_now : (i : ℕ) (b : Begun) (f : ℕ) (e : Edit) → edit_of (operation_at s i b.index) ≡ Some (f, e) → Came s l k i b → keeps_begun l ≡ true → EditAt v (kept_after s l k) i f e b.epoch b.editing
-    silent_now i b f e op (stays b0 there other is) kept = subst (λ (x : Begun). EditAt v (kept_after s l k) i f e x.epoch x.editing) (sym is) (silent_edit i b0 f e there (ap (λ (x : Begun). edit_of (operation_at s i x.index)) (sym is) ∙ op))
-    silent_now i b f e op (marks a2 b0 own l2 there is) kept = never (sym (ap keeps_begun l2) ∙ kept)
-    silent_now i b f e op (begins a2 n own l2 is) kept = never (sym (ap keeps_begun l2) ∙ kept)
-    silent_now i b f e op (exchanges a2 c2 r2 b0 own l2 there is) kept = never (sym (ap keeps_begun l2) ∙ kept)
-    silent_now i b f e op (fails a2 c2 d b0 own l2 there is) kept = never (sym (ap keeps_begun l2) ∙ kept)
+    silent_now : (i : ℕ) (b : Begun) (f : ℕ) (e : Edit) → edit_of (operation_at s i b.index) ≡ Some (f, e) → IsNear s l k i b → EditAt v (kept_after s l k) i f e b.epoch b.editing
+    silent_now i b f e op x = subst (λ (y : Begun). EditAt v (kept_after s l k) i f e y.epoch y.editing) (sym x.is) (silent_edit i x.old f e x.here (ap (λ (y : Begun). edit_of (operation_at s i y.index)) (sym x.is) ∙ op))
 
     silent_edited : keeps_begun l ≡ true → (((kept_after s l k).turn.work ≡ writes → is_over (kept_after s l k).turn.stage ≡ false → ⊥)) → Edited s v (kept_after s l k)
     silent_edited kept none = record {
-      edits = λ i b f e here op. silent_now i b f e op (came s l k i b here) kept;
+      edits = λ i b f e here op. silent_now i b f e op (near_of s l k i b kept (came s l k i b here));
       active = λ work goes. absurd (none work goes);
       alone = alone_now l h;
     }
