@@ -66,7 +66,7 @@ TurnOver s k = (i : ℕ) (b : Begun) (f : ℕ) (e : Edit) → k.turn.actor ≡ S
 some_same : (i a : ℕ) → Some i ≡ Some a → i ≡ a
 some_same i a h = cc
 
-begun_same : (b c : Begun) → Some b ≡ Some c → b ≡ c
+pub begun_same : (b c : Begun) → Some b ≡ Some c → b ≡ c
 begun_same b c h = cc
 
 none_is : (o : Option RowUpdate) → is_none o ≡ true → o ≡ None
@@ -80,7 +80,7 @@ over_moved t e h =
     and_from (is_some e.decided) (is_none (owed_of true (attempt_behind t e.decided e.attempt))) p.0 (ap is_none (owed_moved t e.decided e.attempt p.0 (none_is (owed_of true e.attempt) p.1)))
 
 -- nothing of one that is over is to be sent
-over_sent : (e : Editing) (a : Attempt) (u : RowUpdate) → is_edit_over e ≡ true → e.attempt ≡ Some a → a.moved ≡ false → next_update a ≡ Some u → ⊥
+pub over_sent : (e : Editing) (a : Attempt) (u : RowUpdate) → is_edit_over e ≡ true → e.attempt ≡ Some a → a.moved ≡ false → next_update a ≡ Some u → ⊥
 over_sent e a u h at unmoved next =
     let p = and_parts (is_some e.decided) (is_none (owed_of true e.attempt)) h in
     let owed : owed_of true e.attempt ≡ Some u = ap (owed_of true) at ∙ ap (λ (b : Bool). if true && not b then next_update a else None) unmoved ∙ next in
