@@ -1,5 +1,5 @@
 -- The turn of an edit that publishes is one at whose mark nothing of the edit was left to send, and so it stays.
-use Rattle.std.proofs.Common.{◌≡◌, ◌⊎◌, inl, inr, ℕ, zero, suc, ◌+◌, ◌==◌, ◌&&◌, not, Bool, true, false, if◌then◌else◌, Option, Some, None, is_some, List, [], ◌∷◌, refl, sym, ap, ◌∙◌, subst, true≢false}
+use Rattle.std.proofs.Common.{◌≡◌, ◌⊎◌, inl, inr, ℕ, zero, suc, ◌+◌, ◌&&◌, not, Bool, true, false, if◌then◌else◌, Option, Some, None, is_some, List, [], ◌∷◌, refl, sym, ap, ◌∙◌, subst, true≢false}
 use Rattle.std.specs.Prelude.{is_none}
 use Rattle.std.proofs.lemmas.Bool.{and_parts, and_from, eq-eqb}
 use Rattle.apdu.specs.Values.{CommandValue, ResponseValue}
@@ -25,14 +25,12 @@ use Rattle.rules.specs.History.{is_epoch_border, lives_in}
 use Rattle.rules.specs.Kept.{begun_of, job_of, operation_at, operation_now, begun_operation}
 use Rattle.rules.specs.Channels.{held_numbers}
 use Rattle.rules.specs.Editing.{family_edit}
-use Rattle.rules.specs.Work.{is_edit_over, family_of_edit, family_of_operation, decides, edit_work}
+use Rattle.rules.specs.Work.{is_edit_over, family_of_operation, decides, edit_work}
 use Rattle.rules.specs.After.{edit_of, begun_with, fresh_begun, decision_at, decision_of_begun, facts_of, family_of_begun, jobs_beside, refused_of, kept_after, kept_of}
 use Rattle.rules.specs.Laws.{KeptAgrees, PlansForCard}
 use Rattle.rules.specs.State.{world_of}
 use Rattle.epoch_cache.specs.declared.past.Past.{Past}
-use Rattle.loader.specs.declared.reading.RefusedReading.{RefusedReading}
 use Rattle.rules.specs.declared.kept.Decision.{Decision}
-use Rattle.rules.specs.declared.kept.Facts.{Facts}
 use Rattle.rules.specs.declared.kept.Work.TheVariants.{Rests as rests}
 use Rattle.rules.specs.History.{history_after}
 use Rattle.rules.specs.After.{begun_exchanged}
@@ -47,8 +45,8 @@ use Rattle.performed.proofs.CalmBehind.{actor_is}
 use Rattle.performed.proofs.CalmLines.{exchanged_actor}
 use Rattle.performed.proofs.CalmRest.{told_response}
 use Rattle.performed.proofs.CalmSends.{never}
-use Rattle.performed.proofs.EditsBegun.{near, Came, stays, marks, begins, exchanges, fails, came, keeps_begun, IsNear, near_of}
-use Rattle.performed.proofs.EditsKept.{Wrote, How, still, by_raw, by_edit, how, raw_edits, own, own_actor}
+use Rattle.performed.proofs.EditsBegun.{near, Came, stays, marks, begins, exchanges, fails, came, keeps_begun, near_of}
+use Rattle.performed.proofs.EditsKept.{How, still, by_raw, by_edit, how, raw_edits, own, own_actor}
 use Rattle.performed.proofs.EditsLines.{decides_edit}
 use Rattle.performed.proofs.EditsState.{Edited, owed_moved, next_is}
 use Rattle.performed.proofs.EditsSteps.{exchanged_same}

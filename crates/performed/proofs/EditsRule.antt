@@ -1,6 +1,6 @@
 -- An UPDATE that the turn of an edit sends keeps the rule of edits: it is the next of the plan, its actor holds the session, and the book
 -- behind it is the one before, or, behind a deciding success, the edited one.
-use Rattle.std.proofs.Common.{◌≡◌, ◌⊎◌, inl, inr, ℕ, zero, suc, ◌+◌, ◌==◌, ◌&&◌, not, Bool, true, false, if◌then◌else◌, Option, Some, None, is_some, is_none, Ok, List, [], ◌∷◌, refl, sym, ap, ◌∙◌, subst, arith, true≢false}
+use Rattle.std.proofs.Common.{◌≡◌, ℕ, suc, ◌==◌, ◌&&◌, not, Bool, true, false, if◌then◌else◌, Option, Some, None, is_none, Ok, List, [], ◌∷◌, refl, sym, ap, ◌∙◌, arith, true≢false}
 use Rattle.std.specs.Prelude.{slice_get, option_and_then}
 use Rattle.std.proofs.lemmas.Bool.{and_from, eqb-true, eq-eqb}
 use Rattle.apdu.specs.Values.{CommandValue, ResponseValue}
@@ -24,7 +24,6 @@ use Rattle.book_plans.specs.Law.{book_of, written, written_some, Makes, HasText,
 use Rattle.link.specs.declared.chain.Chain.{Chain}
 use Rattle.link.specs.Commands.{continued, is_at}
 use Rattle.epoch_cache.specs.Cache.{is_update}
-use Rattle.editor.specs.declared.editing.Attempt.{Attempt}
 use Rattle.editor.specs.declared.editing.Decided.{Decided}
 use Rattle.editor.specs.Editing.{next_update, update_command, owed_of}
 use Rattle.rules.specs.declared.kept.Begun.{Begun}
@@ -32,7 +31,7 @@ use Rattle.rules.specs.declared.kept.Kept.{Kept}
 use Rattle.rules.specs.declared.kept.Outcome.{Outcome}
 use Rattle.rules.specs.declared.kept.Work.{Work}
 use Rattle.rules.specs.declared.kept.Work.TheVariants.{Writes as writes}
-use Rattle.rules.specs.Kept.{begun_of, operation_at, begun_operation}
+use Rattle.rules.specs.Kept.{operation_at, begun_operation}
 use Rattle.rules.specs.After.{edit_of}
 use Rattle.rules.specs.Due.{planning_answer}
 use Rattle.rules.specs.State.{view_in}

@@ -1,86 +1,47 @@
 -- How far each edit is, over all lines.
-use Rattle.std.proofs.Common.{◌≡◌, ◌⊎◌, inl, inr, ℕ, zero, suc, ◌+◌, ◌==◌, ◌&&◌, ◌||◌, not, Bool, true, false, if◌then◌else◌, Option, Some, None, is_some, List, [], ◌∷◌, ◌++◌, refl, sym, ap, ◌∙◌, subst, arith, true≢false}
-use Rattle.std.specs.Prelude.{is_none, slice_get, option_map, replicate}
-use Rattle.std.proofs.lemmas.Bool.{and_parts, and_from, eqb-true, eq-eqb}
+use Rattle.std.proofs.Common.{◌≡◌, ◌⊎◌, inl, inr, ℕ, zero, suc, ◌+◌, ◌&&◌, not, Bool, true, false, if◌then◌else◌, Option, Some, None, is_some, List, [], ◌∷◌, refl, sym, ap, ◌∙◌, subst, true≢false}
+use Rattle.std.proofs.lemmas.Bool.{and_parts, and_from, eq-eqb}
 use Rattle.apdu.specs.Values.{CommandValue, ResponseValue}
-use Rattle.apdu.specs.Words.{has_value, same_bytes, is_one_of, or_else}
-use Rattle.rules.specs.declared.kept.Outcome.{Outcome}
-use Rattle.apdu.specs.Apdu.{same_command, is_update_ins}
-use Rattle.fcp.specs.Content.{Content}
-use Rattle.fcp.specs.declared.rule.Need.{Need}
-use Rattle.fcp.specs.declared.rule.Need.TheVariants.{Always, Never, Key}
-use Rattle.refresh_cmd.specs.Values.{ProactiveValue}
-use Rattle.card_effects.specs.Basic.{HasCurrent}
-use Rattle.card_model.specs.declared.world.CardState.{CardState}
+use Rattle.apdu.specs.Apdu.{is_update_ins}
 use Rattle.card_model.specs.declared.world.World.{World}
 use Rattle.card_model.specs.declared.world.WorldEvent.{WorldEvent}
 use Rattle.card_model.specs.declared.world.WorldEvent.TheVariants.{Arm, Out, Insert}
-use Rattle.card_model.specs.Slot.{refusal_of}
-use Rattle.card_model.specs.Step.{step, card_inside}
+use Rattle.card_model.specs.Step.{step}
 use Rattle.script_reader.specs.declared.types.Script.{Script}
-use Rattle.script_reader.specs.declared.types.Operation.{Operation}
-use Rattle.script_reader.specs.declared.types.Operation.TheVariants as operation
 use Rattle.script_reader.specs.Rules.{keeps_rules}
 use Rattle.report.specs.declared.answer.Answer.{Answer}
 use Rattle.report.specs.declared.line.Line.{Line}
 use Rattle.report.specs.declared.line.Line.TheVariants as line
 use Rattle.adn.specs.declared.edit.Edit.{Edit}
-use Rattle.adn.specs.declared.edit.RowUpdate.{RowUpdate}
-use Rattle.adn.specs.declared.edit.Edit.TheVariants as edit
-use Rattle.families.specs.Families.{family_path, family_paths}
+use Rattle.families.specs.Families.{family_path}
 use Rattle.epoch_cache.specs.declared.past.Past.{Past}
-use Rattle.link.specs.declared.chain.Final.{Final}
-use Rattle.loader.specs.declared.reading.RefusedReading.{RefusedReading}
-use Rattle.rules.specs.declared.kept.Turn.{Turn}
 use Rattle.rules.specs.Channels.{held_numbers}
-use Rattle.epoch_cache.specs.declared.cached.Touch.{Touch}
-use Rattle.epoch_cache.specs.Cache.{is_update, is_moved, is_moved_by, moves_one, touch_exchanged, written_by, is_raw_write, is_row_update}
-use Rattle.epoch_cache.specs.declared.cached.Written.TheVariants as written
-use Rattle.editor.specs.declared.editing.Attempt.{Attempt}
-use Rattle.editor.specs.declared.editing.Decided.{Decided}
 use Rattle.editor.specs.declared.editing.Editing.{Editing}
-use Rattle.editor.specs.Editing.{attempt_behind, moved_editing, update_command, no_editing, with_attempt}
+use Rattle.editor.specs.Editing.{moved_editing}
 use Rattle.rules.specs.declared.due.Due.{Due}
-use Rattle.rules.specs.declared.due.Due.TheVariants.{TellEnd as tell_end, Send as send, ResetCard as reset_card, TryEvent as try_event, TellRefusal as tell_refusal, Publish as publish, Give as give, Begin as begin, WaitFor as wait_for, EndOfActor as end_of_actor, Rest as nothing_due}
+use Rattle.rules.specs.declared.due.Due.TheVariants.{TellEnd as tell_end, TryEvent as try_event, TellRefusal as tell_refusal, Publish as publish, Give as give}
 use Rattle.rules.specs.declared.kept.Begun.{Begun}
-use Rattle.rules.specs.declared.kept.Decision.{Decision}
-use Rattle.rules.specs.declared.kept.Facts.{Facts}
-use Rattle.rules.specs.declared.kept.Job.{Job}
 use Rattle.rules.specs.declared.kept.Kept.{Kept}
-use Rattle.rules.specs.declared.kept.Stage.{Stage}
-use Rattle.rules.specs.declared.kept.Stage.TheVariants.{Fresh as fresh, Next as next, Resetting as resetting, Over as over}
-use Rattle.rules.specs.declared.kept.Work.{Work}
-use Rattle.rules.specs.declared.kept.Work.TheVariants.{Rests as rests, Writes as writes}
-use Rattle.rules.specs.History.{is_living, lives_in}
-use Rattle.rules.specs.Sessions.{lacking_key}
-use Rattle.rules.specs.Kept.{begun_of, job_of, operation_at, operation_now, begun_operation, next_operation, actor_count, first_job}
-use Rattle.rules.specs.Editing.{family_edit}
-use Rattle.rules.specs.Work.{decides, edit_work, work_of_operation, work_of_edit, edits_family, first_actor}
-use Rattle.rules.specs.After.{edit_of, opened_behind, outcome_of, begun_with, fresh_begun, begun_exchanged, is_raw, is_raw_line, decision_of_begun, decision_at, facts_of, refused_of, jobs_beside, kept_after, kept_of}
-use Rattle.rules.specs.Agreement.{edit_at, is_planned, IsPlanned, IsSelected, Tied}
+use Rattle.rules.specs.declared.kept.Work.TheVariants.{Writes as writes}
+use Rattle.rules.specs.History.{lives_in}
+use Rattle.rules.specs.Kept.{begun_of, job_of, operation_at, operation_now, begun_operation, next_operation, actor_count}
+use Rattle.rules.specs.After.{edit_of, begun_exchanged, facts_of, refused_of, jobs_beside, kept_after, kept_of}
 use Rattle.rules.specs.Laws.{KeptAgrees, PlansForCard}
-use Rattle.rules.specs.Due.{due_command, due_by_end, due_by_command, due, due_answer, answer_of_actor, answer_of_begun, answer_of, edit_answer}
-use Rattle.rules.specs.Rules.{is_turn_of, turn_operation, operation_in_turn}
-use Rattle.rules.specs.Performed.{ends_turn, is_sent, is_published, is_refusal_told}
-use Rattle.rules.specs.State.{view_in, world_of}
+use Rattle.rules.specs.Due.{due_command, due}
+use Rattle.rules.specs.Rules.{is_turn_of}
+use Rattle.rules.specs.Performed.{ends_turn, is_published, is_refusal_told}
+use Rattle.rules.specs.State.{world_of}
 use Rattle.performed.specs.Served.{serves}
-use Rattle.performed.specs.Followed.{begins_turn, is_given_or_refused, is_tried, is_followed, are_followed}
+use Rattle.performed.specs.Followed.{is_given_or_refused, is_tried, is_followed, are_followed}
 use Rattle.performed.specs.Told.{is_told, are_told}
-use Rattle.performed.proofs.CalmCards.{dead, lives_of}
-use Rattle.performed.proofs.CalmGiven.{given_of}
-use Rattle.performed.proofs.CalmKinds.{Sends, Fits, WorkFits, IsEdits, is_writer, IsOfTurn}
-use Rattle.performed.proofs.CalmLent.{sent_of}
-use Rattle.performed.proofs.CalmLines.{sends_of, turn_by, turn_of, turn_is}
-use Rattle.performed.proofs.CalmRest.{told_response, responses_right}
-use Rattle.performed.proofs.CalmSends.{never, exchange_of_turn, exchange_update}
+use Rattle.performed.proofs.CalmLines.{sends_of}
+use Rattle.performed.proofs.CalmRest.{told_response}
+use Rattle.performed.proofs.CalmSends.{never}
 use Rattle.performed.proofs.EditsBegun.{near, Came, stays, marks, begins, exchanges, fails, came, keeps_begun, IsNear, near_of}
-use Rattle.performed.proofs.EditsCard.{Answered, answered_of, view_same, view_other, OnBasic}
-use Rattle.performed.proofs.EditsMarks.{refused_answers, IsBegun, Begins, turn_begins}
-use Rattle.performed.proofs.EditsPlan.{plan_files}
-use Rattle.performed.proofs.EditsScript.{IsEdit, edit_is, Edits, sets, clears, edits_by, edit_book, begins_alone, seen_alone}
-use Rattle.performed.proofs.EditsSends.{is_book, Does, writes_row, selects_file, does, sends_still}
-use Rattle.performed.proofs.EditsState.{files_in, is_over, IsFresh, IsWriting, EditAt, IsActive, Edited, Leaves, edit_left, unmoved_attempt}
-use Rattle.performed.proofs.EditsSteps.{books_apart, file_of_place, exchanged_same, select_came_to, update_over, updated_edit, now_there}
+use Rattle.performed.proofs.EditsScript.{begins_alone, seen_alone}
+use Rattle.performed.proofs.EditsSends.{Does, writes_row, selects_file, sends_still}
+use Rattle.performed.proofs.EditsState.{files_in, is_over, IsFresh, EditAt, IsActive, Edited, edit_left}
+use Rattle.performed.proofs.EditsSteps.{exchanged_same, select_came_to, update_over, updated_edit, now_there}
 use Rattle.performed.proofs.EpochBegun.{first_begun}
 use Rattle.performed.proofs.EpochFiles.{files_armed}
 use Rattle.performed.proofs.EpochOver.{ended_over}
@@ -89,26 +50,14 @@ use Rattle.rules.specs.Rules.{has_right_response}
 use Rattle.rules.specs.History.{is_epoch_border}
 use Rattle.performed.proofs.ProgressBegins.{Starts, starts}
 use Rattle.performed.proofs.TurnsJobs.{is_own}
-use Rattle.performed.proofs.TurnsSays.{IsDone, turn_done, BeginsNow, begins_now, says_of}
-use Rattle.performed.proofs.EditsLines.{behind_command, Origin, was, newly, origin, decides_edit, done_unfresh, done_unrefused, moves_book, files_by, living_lives, fresh_lives, Writer, writer_of, sends_on, IsBare, bare_of, turn_lacks, begin_lacks, turn_work, turn_came}
-use Rattle.performed.proofs.EditsState.{unplanned, writing, refused, finished, past}
-use Rattle.performed.proofs.JobPlaces.{job_count, begun_there}
-use Rattle.std.proofs.lemmas.Bool.{not-true}
-use Rattle.apdu.specs.Apdu.{is_success}
-use Rattle.epoch_cache.specs.Cache.{handed_refresh}
-use Rattle.performed.proofs.CalmKinds.{IsUpdater}
-use Rattle.performed.proofs.EditsState.{Phase, selecting, ready}
-use Rattle.performed.proofs.EditsState as state
-use Rattle.performed.proofs.EditsState.{Goes, finished_left}
-use Rattle.performed.proofs.EditsPlan.{Place, counted, front, middle, back, sent_at, is_back}
-use Rattle.performed.proofs.CalmLines.{exchanged_actor}
-use Rattle.performed.proofs.EditsSends.{no_update, names_path}
+use Rattle.performed.proofs.TurnsSays.{turn_done, BeginsNow, begins_now, says_of}
+use Rattle.performed.proofs.EditsLines.{behind_command, Origin, was, newly, origin, Writer, writer_of, bare_of, turn_work}
+use Rattle.performed.proofs.EditsState.{past}
 use Rattle.std.specs.Prelude.{nat_le}
 use Rattle.card_model.specs.Step.{after_event}
 use Rattle.rules.specs.State.{world_after}
 use Rattle.rules.specs.Rules.{is_begun_at}
-use Rattle.rules.specs.Performed.{is_reset, is_end_told}
-use Rattle.rules.specs.Due.{is_resetting, reset_by_stage}
+use Rattle.rules.specs.Performed.{is_end_told}
 use Rattle.rules.specs.Work.{is_finished}
 use Rattle.performed.proofs.EditsTurns.{mark_edit, front_edit}
 use Rattle.performed.proofs.EditsTurns as turns

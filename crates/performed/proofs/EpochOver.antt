@@ -1,5 +1,5 @@
 -- A turn that has the end of an epoch to tell sends no more.
-use Rattle.std.proofs.Common.{◌≡◌, ℕ, ◌&&◌, Bool, true, false, List, [], ◌∷◌, Option, Some, None, is_some, refl, sym, ap, ◌∙◌, true≢false}
+use Rattle.std.proofs.Common.{◌≡◌, ℕ, true, List, [], ◌∷◌, is_some, refl, sym, ap, ◌∙◌}
 use Rattle.std.proofs.lemmas.Bool.{and_parts}
 use Rattle.apdu.specs.Values.{CommandValue, ResponseValue}
 use Rattle.script_reader.specs.declared.types.Script.{Script}

@@ -1,11 +1,9 @@
 -- An epoch that has ended stays so, and each line leaves an epoch alive or ends it. A turn that has the end of one to tell sends no more.
-use Rattle.std.proofs.Common.{◌≡◌, ◌⊎◌, inl, inr, ◌≤◌, ℕ, zero, suc, ◌+◌, ◌==◌, ◌&&◌, ◌||◌, not, Bool, true, false, if◌then◌else◌, List, [], ◌∷◌, Option, Some, None, is_some, refl, sym, ap, ◌∙◌, arith, true≢false}
+use Rattle.std.proofs.Common.{◌≡◌, ◌⊎◌, inl, inr, ◌≤◌, ℕ, ◌+◌, ◌==◌, ◌&&◌, ◌||◌, not, Bool, true, false, if◌then◌else◌, Option, Some, None, refl, sym, ap, ◌∙◌, arith, true≢false}
 use Rattle.std.proofs.lemmas.Bool.{and_parts, eqb-true, eq-eqb}
 use Rattle.epoch_cache.specs.declared.past.Past.{Past}
 use Rattle.epoch_cache.specs.Past.{counted}
-use Rattle.script_reader.specs.declared.types.Script.{Script}
 use Rattle.report.specs.declared.line.Line.{Line}
-use Rattle.report.specs.declared.line.Line.TheVariants as line
 use Rattle.rules.specs.History.{begins_epoch, stops_epoch, is_epoch_border, is_living, lives_in, history_after}
 
 -- it has ended, or there was none

@@ -1,6 +1,5 @@
 -- What an actor has begun began in an epoch that lives, in one that has ended, or in none.
 use Rattle.std.proofs.Common.{◌≡◌, ◌⊎◌, inl, inr, ℕ, ◌+◌, Bool, true, false, if◌then◌else◌, List, [], ◌∷◌, Option, Some, None, refl, sym, ap, ◌∙◌, subst, true≢false}
-use Rattle.std.proofs.lemmas.Bool.{and_parts}
 use Rattle.script_reader.specs.declared.types.Script.{Script}
 use Rattle.report.specs.declared.line.Line.{Line}
 use Rattle.report.specs.declared.line.Line.TheVariants as line
@@ -9,7 +8,7 @@ use Rattle.rules.specs.declared.kept.Begun.{Begun}
 use Rattle.rules.specs.declared.kept.Kept.{Kept}
 use Rattle.rules.specs.History.{is_epoch_border, lives_in, history_after}
 use Rattle.rules.specs.Kept.{begun_of, actor_count}
-use Rattle.rules.specs.After.{kept_after, kept_of}
+use Rattle.rules.specs.After.{kept_of}
 use Rattle.performed.proofs.EditsBegun.{came}
 use Rattle.performed.proofs.EditsLines.{Origin, was, newly, origin}
 use Rattle.performed.proofs.EpochBegun.{first_begun}

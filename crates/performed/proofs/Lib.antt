@@ -29,7 +29,6 @@ pub mod EditsBegun
 pub mod EditsFinal
 pub mod EditsCard
 pub mod EditsDecides
-pub mod EditsUndying
 pub mod EditsPlan
 pub mod EpochPast
 pub mod EditsState
@@ -82,9 +81,6 @@ pub mod EpochFetch
 pub mod EpochWorld
 pub mod EpochEnds
 pub mod EpochNames
-pub mod SteadyArmed
-pub mod SteadyEvents
-pub mod SteadyShown
 pub mod EpochBegun
 pub mod EpochLost
 pub mod EpochDecided
