@@ -44,6 +44,7 @@ pub mod EpochSince
 pub mod EpochOver
 pub mod EditsWhole
 pub mod EditsOver
+pub mod EditsCurrent
 pub mod CalmManage
 pub mod CalmHeld
 pub mod CalmMatch

@@ -123,7 +123,7 @@ present_or : (path : List ℕ) (rest : Option (List ℕ)) (b : Bool) → (if not
 present_or path rest true h = (refl, h)
 present_or path rest false h = absurd (cc)
 
-none_missing : (files : List CachedFile) (paths : List (List ℕ)) → first_missing files paths ≡ None → all_current files paths ≡ true
+pub none_missing : (files : List CachedFile) (paths : List (List ℕ)) → first_missing files paths ≡ None → all_current files paths ≡ true
 none_missing files [] h = refl
 none_missing files (path ∷ paths) h =
     let q = present_or path (first_missing files paths) (is_current files path) h in
