@@ -87,3 +87,4 @@ pub mod EpochLost
 pub mod EpochDecided
 pub mod EpochFiles
 pub mod EpochFamily
+pub mod EditsWork
