@@ -55,7 +55,7 @@ use Rattle.rules.specs.declared.holdings.Handle.{Handle}
 use Rattle.rules.specs.Sessions.{has_session}
 use Rattle.performed.proofs.CalmBehind.{actor_is}
 use Rattle.performed.proofs.CalmLines.{turn_is}
-use Rattle.performed.proofs.CalmRest.{told_response}
+use Rattle.performed.proofs.CalmAnswers.{told_response}
 use Rattle.performed.proofs.CalmSends.{never}
 use Rattle.performed.proofs.EditsKept.{How, still, by_raw, by_edit, how, own, own_card, own_book, current}
 use Rattle.performed.proofs.EditsLines.{edit_answers, writes_what}

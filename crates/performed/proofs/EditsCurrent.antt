@@ -43,7 +43,7 @@ use Rattle.rules.specs.State.{world_of}
 use Rattle.performed.specs.Served.{serves}
 use Rattle.performed.specs.Followed.{is_followed, are_followed}
 use Rattle.performed.specs.Told.{is_told, are_told}
-use Rattle.performed.proofs.CalmRest.{told_response}
+use Rattle.performed.proofs.CalmAnswers.{told_response}
 use Rattle.performed.proofs.CalmSends.{never}
 use Rattle.performed.proofs.EditsBegun.{near, Came, stays, marks, begins, exchanges, fails, came}
 use Rattle.performed.proofs.EditsKept.{How, still, by_raw, by_edit, how}

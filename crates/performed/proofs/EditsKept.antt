@@ -40,7 +40,7 @@ use Rattle.performed.specs.Told.{are_told}
 use Rattle.performed.proofs.CalmKinds.{Sends}
 use Rattle.performed.proofs.CalmLent.{sent_of}
 use Rattle.performed.proofs.CalmLines.{sends_of, turn_of, turn_is}
-use Rattle.performed.proofs.CalmRest.{responses_right}
+use Rattle.performed.proofs.CalmAnswers.{responses_right}
 use Rattle.performed.proofs.CalmSends.{never, exchange_of_turn, exchange_update}
 use Rattle.performed.proofs.EditsBegun.{came}
 use Rattle.performed.proofs.EditsCard.{Answered, answered_by, view_other, OnBasic}

@@ -43,7 +43,7 @@ use Rattle.performed.specs.Followed.{is_followed, are_followed}
 use Rattle.performed.specs.Told.{is_told, are_told}
 use Rattle.performed.proofs.CalmBehind.{actor_is}
 use Rattle.performed.proofs.CalmLines.{exchanged_actor}
-use Rattle.performed.proofs.CalmRest.{told_response}
+use Rattle.performed.proofs.CalmAnswers.{told_response}
 use Rattle.performed.proofs.CalmSends.{never}
 use Rattle.performed.proofs.EditsBegun.{near, Came, stays, marks, begins, exchanges, fails, came, keeps_begun, near_of}
 use Rattle.performed.proofs.EditsKept.{How, still, by_raw, by_edit, how, raw_edits, own, own_actor}
@@ -94,7 +94,7 @@ family_over : (b : Begun) (op : Operation) (f : ℕ) (e : Edit) → family_edit 
 family_over b op f e h (sets at name number is) some = over_if (is_edit_over b.editing) f (subst (λ (x : Operation). is_some (family_of_operation b x) ≡ true) is some)
 family_over b op f e h (clears at is) some = over_if (is_edit_over b.editing) f (subst (λ (x : Operation). is_some (family_of_operation b x) ≡ true) is some)
 
-begun_over : (k : Kept) (b : Begun) (o : Option Operation) (f : ℕ) (e : Edit) → edit_of o ≡ Some (f, e) → is_some (family_of_begun k (Some b) o) ≡ true → is_edit_over b.editing ≡ true
+pub begun_over : (k : Kept) (b : Begun) (o : Option Operation) (f : ℕ) (e : Edit) → edit_of o ≡ Some (f, e) → is_some (family_of_begun k (Some b) o) ≡ true → is_edit_over b.editing ≡ true
 begun_over k b None f e h some = never some
 begun_over k b (Some op) f e h some = by_lives (lives_in k.history b.epoch) some
   where

@@ -41,6 +41,7 @@ use Rattle.performed.proofs.EditsCard.{Answered, view_same}
 use Rattle.performed.proofs.EditsPlan.{Place, front, middle, back, counted, update_at, sent_at, files_at, WritesFiles, plan_files, makes_of, book_edited, front_kept, back_kept}
 use Rattle.performed.proofs.EditsSends.{is_book}
 use Rattle.performed.proofs.EditsState.{files_in, next_is, IsActive}
+use Rattle.performed.proofs.EpochLost.{book_self}
 use Rattle.performed.proofs.EditsSteps.{main_apart, files_written}
 
 -- ---- what is the same is found to be
@@ -63,15 +64,6 @@ update_self u = and_from (u.file == u.file) ((u.row == u.row) && same_bytes u.by
 updates_self : (us : List RowUpdate) → same_updates us us ≡ true
 updates_self [] = refl
 updates_self (u ∷ us) = and_from (same_update u u) (same_updates us us) (update_self u) (updates_self us)
-
-row_self : (r : BookRow) → same_row r r ≡ true
-row_self Free = refl
-row_self Unreadable = refl
-row_self (Entry e) = and_from (same_bytes e.name e.name) (same_bytes e.number e.number) (same_bytes_self e.name) (same_bytes_self e.number)
-
-book_self : (b : List BookRow) → same_book b b ≡ true
-book_self [] = refl
-book_self (r ∷ rs) = and_from (same_row r r) (same_book rs rs) (row_self r) (book_self rs)
 
 suc_zero : (n : ℕ) → (suc n == 0) ≡ true → ⊥
 suc_zero n h = let z : (suc n == 0) ≡ false = grind arith in true≢false (sym h ∙ z)

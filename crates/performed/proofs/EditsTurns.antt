@@ -31,7 +31,7 @@ use Rattle.performed.specs.Followed.{are_followed}
 use Rattle.performed.specs.Told.{are_told}
 use Rattle.performed.proofs.CalmCards.{lives_of}
 use Rattle.performed.proofs.CalmGiven.{given_of}
-use Rattle.performed.proofs.CalmRest.{responses_right}
+use Rattle.performed.proofs.CalmAnswers.{responses_right}
 use Rattle.performed.proofs.EditsBegun.{near, Came, stays, marks, begins, exchanges, fails, came}
 use Rattle.performed.proofs.EditsMarks.{IsBegun, turn_begins}
 use Rattle.performed.proofs.EditsScript.{edit_book}

@@ -35,7 +35,7 @@ use Rattle.performed.specs.Served.{serves}
 use Rattle.performed.specs.Followed.{is_given_or_refused, is_tried, is_followed, are_followed}
 use Rattle.performed.specs.Told.{is_told, are_told}
 use Rattle.performed.proofs.CalmLines.{sends_of}
-use Rattle.performed.proofs.CalmRest.{told_response}
+use Rattle.performed.proofs.CalmAnswers.{told_response}
 use Rattle.performed.proofs.CalmSends.{never}
 use Rattle.performed.proofs.EditsBegun.{near, Came, stays, marks, begins, exchanges, fails, came, keeps_begun, IsNear, near_of}
 use Rattle.performed.proofs.EditsScript.{begins_alone, seen_alone}

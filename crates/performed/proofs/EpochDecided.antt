@@ -138,7 +138,7 @@ module _ (s : Script) (k : Kept) (i f : ℕ) (t : IsDecided s k i f) where
       by_test false e = of_other l e lives
 
 -- where it is due: only its answer ends it
-begin_free : (s : Script) (k : Kept) (i n : ℕ) (b : Begun) → is_followed s k (line.Begin i n) ≡ true → begun_of i k.jobs ≡ Some b → ⊥
+pub begin_free : (s : Script) (k : Kept) (i n : ℕ) (b : Begun) → is_followed s k (line.Begin i n) ≡ true → begun_of i k.jobs ≡ Some b → ⊥
 begin_free s k i n b h here =
     let x = begins_now s k i n h in
     true≢false (sym (ap (λ (j : ℕ). is_none (begun_of j k.jobs)) x.same ∙ x.begins.free) ∙ ap is_none here)

@@ -45,6 +45,8 @@ pub mod EpochOver
 pub mod EditsWhole
 pub mod EditsOver
 pub mod EditsCurrent
+pub mod EditsAwaited
+pub mod EditsShown
 pub mod CalmManage
 pub mod CalmHeld
 pub mod CalmMatch
@@ -56,6 +58,7 @@ pub mod CalmState
 pub mod CalmKnown
 pub mod CalmBehind
 pub mod CalmCards
+pub mod CalmAnswers
 pub mod CalmRest
 pub mod ProgressActors
 pub mod ProgressJobs
