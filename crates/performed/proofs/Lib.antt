@@ -1,4 +1,5 @@
 pub mod TurnsSays
+pub mod Lists
 pub mod Handles
 pub mod TurnsJobs
 pub mod Plain

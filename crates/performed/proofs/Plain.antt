@@ -44,7 +44,8 @@ use Rattle.rules.specs.Rules.{is_turn_of, is_begun_at}
 use Rattle.rules.specs.After.{begun_beside, begun_with, begun_exchanged, begun_failed, mailbox_behind, job_beside, jobs_beside, edit_of, editing_sent, own_job, handles_given, decision_of_begun, decision_at, fresh_begun, facts_of, refused_of, opened_behind, no_channel_left, refused_outcome, success_or_refusal, opening_outcome, selecting_outcome, outcome_of, turn_answered, turn_exchanged, kept_after, kept_of}
 use Rattle.performed.proofs.TurnsJobs.{Before, before, behind_job, first_jobs, is_own}
 use Rattle.performed.proofs.TurnsSays.{BeginsNow, begins_now}
-use Rattle.performed.proofs.Handles.{given_good, all_mapped, Opens, opens}
+use Rattle.performed.proofs.Handles.{given_good, Opens, opens}
+use Rattle.performed.proofs.Lists.{all_mapped}
 use Rattle.performed.specs.Served.{is_served, serves}
 use Rattle.performed.specs.Followed.{are_followed, is_followed, is_given_or_refused}
 use Rattle.performed.specs.Laws.{has_no_edit, IsPlainJob, ArePlainJobs, is_channel, IsPlain}

@@ -32,7 +32,7 @@ use Rattle.rules.specs.Due.{with_card, with_ended, is_lost, loaded, outcome_answ
 use Rattle.rules.specs.Performed.{ends_turn}
 use Rattle.performed.specs.Served.{is_served}
 use Rattle.performed.proofs.ProgressSound.{lives_or_ended}
-use Rattle.performed.proofs.Handles.{all_found}
+use Rattle.performed.proofs.Lists.{all_found}
 use Rattle.performed.proofs.ProgressHandles.{is_sound_handle, are_sound_handles}
 
 -- ---- the walk: what is due first is a line
