@@ -1,5 +1,5 @@
 -- The responses of lines that show what a slot gave are the card's.
-use Rattle.std.proofs.Common.{◌≡◌, ◌&&◌, Bool, true, List, [], ◌∷◌, refl}
+use Rattle.std.proofs.Common.{◌≡◌, true, List, [], ◌∷◌, refl}
 use Rattle.std.proofs.lemmas.Bool.{and_parts, and_from}
 use Rattle.card_model.specs.declared.world.World.{World}
 use Rattle.script_reader.specs.declared.types.Script.{Script}

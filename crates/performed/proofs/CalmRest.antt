@@ -8,7 +8,7 @@ use Rattle.std.specs.List.{list_all, list_any}
 use Rattle.std.proofs.lemmas.Bool.{and_parts, and_from, eqb-true, ltb-true, ltb-false, not-true, or_cases, or_parts}
 use Rattle.apdu.specs.Values.{CommandValue, ResponseValue}
 use Rattle.apdu.specs.Words.{has_value, is_one_of, same_bytes}
-use Rattle.apdu.specs.Apdu.{fetch_ins, is_update_ins, is_success}
+use Rattle.apdu.specs.Apdu.{fetch_ins, is_success}
 use Rattle.refresh_cmd.specs.Values.{ProactiveValue}
 use Rattle.refresh_cmd.specs.Proactive.{read_proactive}
 use Rattle.card_model.specs.declared.world.World.{World}
@@ -36,7 +36,7 @@ use Rattle.rules.specs.declared.kept.Work.{Work}
 use Rattle.rules.specs.declared.standing.Standing.{Standing}
 use Rattle.rules.specs.LookingBack.{is_wanted}
 use Rattle.rules.specs.Standing.{first_standing, settled_by, unless_settled, latest, shown_behind, standing_by, standing_after, refused_in, is_stale, first_stale}
-use Rattle.rules.specs.After.{is_raw, is_raw_line, facts_of, refused_of, jobs_beside, family_begun, kept_after, kept_of}
+use Rattle.rules.specs.After.{is_raw_line, facts_of, refused_of, jobs_beside, family_begun, kept_after, kept_of}
 use Rattle.rules.specs.Kept.{actor_count, begun_of}
 use Rattle.rules.specs.Due.{due, is_reset_due, kept_text, reset_by_stage}
 use Rattle.rules.specs.Performed.{ends_turn, is_published}

@@ -1,15 +1,12 @@
 -- An edit that has decided in the epoch that lives, and whose family nobody moved since: its family is published before it is answered.
-use Rattle.std.proofs.Common.{◌≡◌, ◌⊎◌, inl, inr, ℕ, zero, suc, ◌+◌, ◌==◌, ◌&&◌, ◌||◌, not, Bool, true, false, if◌then◌else◌, Option, Some, None, is_some, is_none, List, [], ◌∷◌, ◌++◌, refl, sym, ap, ◌∙◌, subst, true≢false}
+use Rattle.std.proofs.Common.{◌≡◌, ℕ, zero, suc, ◌==◌, ◌&&◌, not, Bool, true, false, if◌then◌else◌, Option, Some, None, is_some, is_none, List, [], ◌∷◌, refl, sym, ap, ◌∙◌, subst, true≢false}
 use Rattle.std.specs.Prelude.{option_map}
-use Rattle.std.specs.List.{list_any}
-use Rattle.std.proofs.lemmas.Bool.{and_parts, and_from, eqb-true, eq-eqb}
+use Rattle.std.proofs.lemmas.Bool.{and_parts, eq-eqb}
 use Rattle.apdu.specs.Values.{CommandValue, ResponseValue}
 use Rattle.apdu.specs.Words.{has_value}
 use Rattle.apdu.specs.Apdu.{same_command}
-use Rattle.card_model.specs.declared.world.WorldEvent.{WorldEvent}
 use Rattle.card_model.specs.declared.world.WorldEvent.TheVariants.{Arm}
 use Rattle.script_reader.specs.declared.types.Script.{Script}
-use Rattle.script_reader.specs.declared.types.Operation.{Operation}
 use Rattle.report.specs.declared.answer.Answer.{Answer}
 use Rattle.report.specs.declared.answer.Answer.TheVariants as answer
 use Rattle.report.specs.declared.line.Line.{Line}
@@ -18,18 +15,15 @@ use Rattle.adn.specs.declared.edit.Edit.{Edit}
 use Rattle.adn.specs.declared.edit.RowUpdate.{RowUpdate}
 use Rattle.families.specs.Families.{family_paths}
 use Rattle.epoch_cache.specs.declared.cached.CachedFile.{CachedFile}
-use Rattle.epoch_cache.specs.declared.cached.Touch.{Touch}
-use Rattle.epoch_cache.specs.Cache.{all_current, first_missing, is_current, is_moved, is_spoiled, is_overwritten, is_unknown_write, moves_one}
-use Rattle.editor.specs.declared.editing.Attempt.{Attempt}
+use Rattle.epoch_cache.specs.Cache.{all_current, first_missing, is_current, is_moved, is_unknown_write, moves_one}
 use Rattle.editor.specs.declared.editing.Decided.{Decided}
 use Rattle.editor.specs.declared.editing.Editing.{Editing}
-use Rattle.editor.specs.Editing.{left_rows, owed_of, owed_update}
+use Rattle.editor.specs.Editing.{left_rows, owed_of}
 use Rattle.rules.specs.declared.due.Due.{Due}
 use Rattle.rules.specs.declared.due.Due.TheVariants.{Give as give, TryEvent as try_event}
 use Rattle.rules.specs.declared.kept.Begun.{Begun}
 use Rattle.rules.specs.declared.kept.Decision.{Decision}
 use Rattle.rules.specs.declared.kept.Kept.{Kept}
-use Rattle.rules.specs.declared.kept.Outcome.{Outcome}
 use Rattle.rules.specs.declared.kept.Turn.{Turn}
 use Rattle.rules.specs.declared.kept.Work.{Work}
 use Rattle.rules.specs.declared.kept.Work.TheVariants.{Rests as rests, Reads as reads, Writes as writes}
@@ -37,10 +31,10 @@ use Rattle.rules.specs.History.{lives_in, stops_epoch}
 use Rattle.rules.specs.Channels.{held_numbers}
 use Rattle.rules.specs.Kept.{begun_of, begun_operation, job_of, operation_at, operation_now}
 use Rattle.rules.specs.Work.{decided_work, decides, edit_work, is_edit_over, reads_first, undecided_work}
-use Rattle.rules.specs.After.{decision_at, decision_of_begun, edit_of, facts_of, family_of_begun, jobs_beside, refused_of, kept_after, kept_of}
-use Rattle.rules.specs.Due.{due, due_answer, due_command, edit_answer, decided_answer, done_publication, done_in_turn, first_command, tried_event}
+use Rattle.rules.specs.After.{decision_of_begun, edit_of, facts_of, family_of_begun, jobs_beside, refused_of, kept_after, kept_of}
+use Rattle.rules.specs.Due.{due, due_answer, due_command, edit_answer, decided_answer, done_in_turn, first_command}
 use Rattle.rules.specs.Laws.{KeptLooksBack}
-use Rattle.rules.specs.Performed.{begins_as, is_sent, is_refusal_told}
+use Rattle.rules.specs.Performed.{is_sent, is_refusal_told}
 use Rattle.rules.specs.Rules.{is_turn_of, is_begun_at}
 use Rattle.performed.specs.Followed.{is_followed, are_followed, is_given_or_refused, is_tried}
 use Rattle.performed.proofs.CalmBehind.{actor_is}
@@ -58,7 +52,6 @@ use Rattle.performed.proofs.EpochFamily.{turn_edits}
 use Rattle.performed.proofs.TurnsPhase.{Publishes, publishes}
 use Rattle.performed.proofs.TurnsSays.{begins_now, says_of}
 use Rattle.performed.proofs.WantedFamilies.{exchanged_family}
-use Rattle.rules.specs.Performed.{is_published}
 
 -- nothing was done in the turn, and nothing is to be sent
 pub record IsQuiet (k : Kept) : Type 0 where

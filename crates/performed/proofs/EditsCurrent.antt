@@ -1,41 +1,31 @@
 -- While an attempt is under way that nobody moved, all paths of its edit are current.
 use Rattle.std.proofs.Common.{◌≡◌, ℕ, suc, ◌+◌, ◌&&◌, ◌||◌, not, Bool, true, false, if◌then◌else◌, Option, Some, None, is_some, List, [], ◌∷◌, ◌++◌, refl, sym, ap, ◌∙◌, subst, true≢false}
-use Rattle.std.specs.Prelude.{option_map, Result, Ok, Err}
+use Rattle.std.specs.Prelude.{option_map}
 use Rattle.std.proofs.lemmas.Bool.{and_parts, and_from}
 use Rattle.apdu.specs.Values.{CommandValue, ResponseValue}
 use Rattle.apdu.specs.Apdu.{is_update_ins, is_success}
 use Rattle.card_model.specs.declared.world.WorldEvent.TheVariants.{Arm, Out, Insert}
 use Rattle.adn.specs.declared.edit.Edit.{Edit}
-use Rattle.adn.specs.declared.edit.Plan.{Plan}
-use Rattle.adn.specs.declared.edit.PlanError.{PlanError}
 use Rattle.script_reader.specs.declared.types.Script.{Script}
-use Rattle.script_reader.specs.declared.types.Operation.{Operation}
-use Rattle.script_reader.specs.declared.types.Operation.TheVariants as operation
 use Rattle.script_reader.specs.Rules.{keeps_rules}
 use Rattle.report.specs.declared.line.Line.{Line}
 use Rattle.report.specs.declared.line.Line.TheVariants as line
-use Rattle.families.specs.Families.{family_plan}
-use Rattle.families.specs.Plans.{plan_updates}
 use Rattle.link.specs.declared.chain.Chain.{Chain}
 use Rattle.epoch_cache.specs.declared.cached.CachedFile.{CachedFile}
 use Rattle.epoch_cache.specs.declared.cached.Touch.{Touch}
 use Rattle.epoch_cache.specs.declared.cached.Written.TheVariants as written
-use Rattle.epoch_cache.specs.Cache.{all_current, first_missing, is_current, is_moved, is_row_update, is_unknown_write, is_update, moves_one, view_of_files}
+use Rattle.epoch_cache.specs.Cache.{all_current, is_current, is_moved, is_row_update, is_unknown_write, is_update, moves_one}
 use Rattle.editor.specs.declared.editing.Attempt.{Attempt}
 use Rattle.editor.specs.declared.editing.Decided.{Decided}
 use Rattle.editor.specs.declared.editing.Editing.{Editing}
 use Rattle.link.specs.Commands.{is_at}
-use Rattle.editor.specs.Editing.{attempt_behind, decided_by, edit_paths, extended_by, moved_attempt, planned, sent_update, updated_by, with_attempt}
+use Rattle.editor.specs.Editing.{attempt_behind, decided_by, extended_by, moved_attempt, sent_update, updated_by, with_attempt}
 use Rattle.families.specs.Families.{family_path}
 use Rattle.rules.specs.declared.kept.Begun.{Begun}
-use Rattle.rules.specs.declared.kept.Decision.{Decision}
 use Rattle.rules.specs.declared.kept.Kept.{Kept}
-use Rattle.rules.specs.declared.kept.Work.TheVariants.{Rests as rests, Refuses as refuses, Lacks as lacks, Writes as writes, Reads as reads}
 use Rattle.rules.specs.History.{is_epoch_border, stops_epoch, lives_in}
 use Rattle.rules.specs.Kept.{begun_of, operation_at, operation_now}
-use Rattle.rules.specs.Editing.{family_edit, first_lack}
-use Rattle.rules.specs.Work.{attempts, begins_plan, decides, decided_work, edit_work, undecided_work, work_of_edit, work_of_operation}
-use Rattle.rules.specs.After.{decision_at, decision_of_begun, edit_of, editing_answered, editing_sent, facts_of, fresh_begun, is_raw_line, kept_of}
+use Rattle.rules.specs.After.{decision_at, edit_of, editing_answered, editing_sent, facts_of, fresh_begun, is_raw_line, kept_of}
 use Rattle.rules.specs.Laws.{KeptAgrees, KeptLooksBack, PlansForCard}
 use Rattle.rules.specs.LookingBack.{completes, was_completed}
 use Rattle.rules.specs.Rules.{has_right_response}
@@ -52,7 +42,7 @@ use Rattle.performed.proofs.EditsWhole.{edited_of}
 use Rattle.performed.proofs.EpochBegun.{first_begun}
 use Rattle.performed.proofs.EpochPast.{past_dead}
 use Rattle.performed.proofs.EpochSince.{begun_past}
-use Rattle.performed.proofs.ProgressGoes.{none_missing}
+use Rattle.performed.proofs.EditsDecides.{begun_made}
 use Rattle.performed.proofs.WantedFamilies.{or_later}
 use Rattle.rules.specs.Kept.{actor_count}
 
@@ -90,62 +80,6 @@ front_current files [] rest h = refl
 front_current files (path ∷ list) rest h =
     let p = and_parts (is_current files path) (all_current files (list ++ rest)) h in
     and_from (is_current files path) (all_current files list) p.0 (front_current files list rest p.1)
-
--- ---- an attempt begins where all paths are current
-
-abbrev Fine : Kept → Decision → Type 0
-Fine k d = (x : Attempt) → d.attempt ≡ Some x → all_current k.files x.paths ≡ true
-
-module _ (k : Kept) (a f : ℕ) (e : Edit) where
-  begins_fine : (plan : Plan) (list : List (List ℕ)) (o : Option ℕ) → all_current k.files list ≡ true → Fine k (elim o [ Some key ↦ decides (lacks key) | None ↦ record { work = writes; attempt = Some (planned f plan list) } ])
-  begins_fine plan list (Some key) all x h = absurd (cc)
-  begins_fine plan list None all x h = let same : planned f plan list ≡ x = cc in subst (λ (y : Attempt). all_current k.files y.paths ≡ true) same all
-
-  plans_fine : (list : List (List ℕ)) (r : Result Plan PlanError) → all_current k.files list ≡ true → Fine k (elim r [ Err refusal ↦ decides (refuses refusal) | Ok plan ↦ begins_plan k a f plan list ])
-  plans_fine list (Err refusal) all x h = absurd (cc)
-  plans_fine list (Ok plan) all x h = begins_fine plan list (first_lack k.history a k.sessions k.files f (plan_updates plan)) all x h
-
-  attempts_fine : (o : Option Attempt) (list : List (List ℕ)) → all_current k.files list ≡ true → Fine k (attempts k a f e o list)
-  attempts_fine (Some y) list all x h = absurd (cc)
-  attempts_fine None list all x h = plans_fine list (family_plan f e (view_of_files k.files)) all x h
-
-  undecided_fine : (y : Option Attempt) (list : List (List ℕ)) (o : Option (List ℕ)) → first_missing k.files list ≡ o → Fine k (elim o [ Some path ↦ decides (reads path) | None ↦ attempts k a f e y list ])
-  undecided_fine y list (Some path) is x h = absurd (cc)
-  undecided_fine y list None is x h = attempts_fine y list (none_missing k.files list is) x h
-
-  edit_fine : (editing : Editing) (o : Option Decided) → Fine k (elim o [ None ↦ undecided_work k a f e editing.attempt | Some d ↦ decides (decided_work k f editing) ])
-  edit_fine editing None x h = undecided_fine editing.attempt (edit_paths k.files f) (first_missing k.files (edit_paths k.files f)) refl x h
-  edit_fine editing (Some d) x h = absurd (cc)
-
-  living_fine : (editing : Editing) (b : Bool) → Fine k (elim b [ true ↦ edit_work k a f e editing | false ↦ decides rests ])
-  living_fine editing true x h = edit_fine editing editing.decided x h
-  living_fine editing false x h = absurd (cc)
-
-edits_fine : (k : Kept) (a : ℕ) (b : Begun) (o : Option (ℕ × Edit)) → Fine k (work_of_edit k a b o)
-edits_fine k a b None x h = absurd (cc)
-edits_fine k a b (Some (f, e)) x h = living_fine k a f e b.editing (lives_in k.history b.epoch) x h
-
-operation_fine : (k : Kept) (a : ℕ) (b : Begun) (op : Operation) → Fine k (work_of_operation k a b op)
-operation_fine k a b (operation.Set g at name number) x h = edits_fine k a b (family_edit (operation.Set g at name number)) x h
-operation_fine k a b (operation.Clear g at) x h = edits_fine k a b (family_edit (operation.Clear g at)) x h
-operation_fine k a b (operation.Insert card) x h = absurd (cc)
-operation_fine k a b operation.Out x h = absurd (cc)
-operation_fine k a b (operation.Arm change) x h = absurd (cc)
-operation_fine k a b (operation.Load g) x h = absurd (cc)
-operation_fine k a b (operation.OpenChannel handle aid) x h = absurd (cc)
-operation_fine k a b (operation.Raw handle apdu) x h = absurd (cc)
-operation_fine k a b (operation.Close handle) x h = absurd (cc)
-operation_fine k a b (operation.Verify key pin) x h = absurd (cc)
-operation_fine k a b (operation.End key) x h = absurd (cc)
-operation_fine k a b operation.Poll x h = absurd (cc)
-operation_fine k a b operation.Look x h = absurd (cc)
-operation_fine k a b (operation.Watch mask) x h = absurd (cc)
-operation_fine k a b operation.Notices x h = absurd (cc)
-
-begun_fine : (k : Kept) (a : ℕ) (b : Option Begun) (o : Option Operation) → Fine k (decision_of_begun k a b o)
-begun_fine k a (Some b) (Some op) x h = operation_fine k a b op x h
-begun_fine k a (Some b) None x h = absurd (cc)
-begun_fine k a None o x h = absurd (cc)
 
 -- ---- an attempt behind what another does, and behind a command of its own
 
@@ -235,13 +169,13 @@ module _ (looks : KeptLooksBack) (s : Script) (earlier : List Line) (before : At
         near_current i b a here (ap (λ (x : Begun). x.editing.attempt) (sym is) ∙ at) unmoved (ap (λ (x : Begun). lives_in (kept_of s (l ∷ earlier)).history x.epoch) (sym is) ∙ lives)
     came_current i now a (marks m b mine e here is) at unmoved lives =
         with_current i b (decision_at s l kept).attempt (near s l kept b).editing a
-        (λ x h. begun_fine kept (suc m) (begun_of (suc m) kept.jobs) (operation_now s (suc m) kept.jobs) x (ap (λ (y : Line). (decision_at s y kept).attempt) (sym e) ∙ h))
+        (λ x h. (begun_made kept (suc m) (begun_of (suc m) kept.jobs) (operation_now s (suc m) kept.jobs) x (ap (λ (y : Line). (decision_at s y kept).attempt) (sym e) ∙ h)).current)
         (λ path. ap (λ (y : Line). is_moved (facts_of s y kept).touch path) e)
         (λ z. near_current i b a here z unmoved (ap (λ (x : Begun). lives_in (kept_of s (l ∷ earlier)).history x.epoch) (sym is) ∙ lives))
         (ap (λ (x : Begun). x.editing.attempt) (sym is) ∙ at)
     came_current i now a (begins m n mine e is) at unmoved lives =
         with_current i (fresh_begun n kept.history) (decision_at s l kept).attempt (fresh_begun n kept.history).editing a
-        (λ x h. begun_fine kept m (Some (fresh_begun n kept.history)) (operation_at s m n) x (ap (λ (y : Line). (decision_at s y kept).attempt) (sym e) ∙ h))
+        (λ x h. (begun_made kept m (Some (fresh_begun n kept.history)) (operation_at s m n) x (ap (λ (y : Line). (decision_at s y kept).attempt) (sym e) ∙ h)).current)
         (λ path. ap (λ (y : Line). is_moved (facts_of s y kept).touch path) e)
         (λ z. absurd (cc))
         (ap (λ (x : Begun). x.editing.attempt) (sym is) ∙ at)

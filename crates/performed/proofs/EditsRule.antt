@@ -14,11 +14,9 @@ use Rattle.card_model.specs.declared.world.World.{World}
 use Rattle.card_model.specs.Step.{step, card_inside}
 use Rattle.script_reader.specs.declared.types.Script.{Script}
 use Rattle.script_reader.specs.declared.types.Operation.{Operation}
-use Rattle.adn.specs.declared.entry.BookRow.{BookRow}
-use Rattle.adn.specs.declared.entry.BookRow.TheVariants.{Free, Entry, Unreadable}
 use Rattle.adn.specs.declared.edit.RowUpdate.{RowUpdate}
 use Rattle.families.specs.Families.{family_path, family_plan}
-use Rattle.families.specs.Plans.{edited, plan_edit, plan_updates, same_row, same_book}
+use Rattle.families.specs.Plans.{edited, plan_edit, plan_updates, same_book}
 use Rattle.book_plans.specs.Phonebook.{Files}
 use Rattle.book_plans.specs.Law.{book_of, written, written_some, Makes, HasText, PlansMakeEdits}
 use Rattle.link.specs.declared.chain.Chain.{Chain}

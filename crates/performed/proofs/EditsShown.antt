@@ -1,6 +1,6 @@
 -- What the card shows behind an UPDATE of an edit that was done: of another family the same, of its own family too unless it writes the main
 -- file; and behind one that does, the publication of the family is awaited.
-use Rattle.std.proofs.Common.{◌≡◌, ◌⊎◌, inl, inr, ℕ, zero, suc, ◌+◌, ◌==◌, ◌&&◌, ◌||◌, not, Bool, true, false, if◌then◌else◌, Option, Some, None, is_some, List, [], ◌∷◌, ◌++◌, refl, sym, ap, ◌∙◌, subst, arith, true≢false}
+use Rattle.std.proofs.Common.{◌≡◌, ◌⊎◌, inl, inr, ℕ, zero, suc, ◌==◌, ◌&&◌, ◌||◌, not, Bool, true, false, Option, Some, None, is_some, List, [], ◌∷◌, refl, sym, ap, ◌∙◌, subst, arith, true≢false}
 use Rattle.std.specs.Prelude.{codes}
 use Rattle.std.specs.List.{list_any}
 use Rattle.std.proofs.lemmas.Bool.{and_parts, and_from, eqb-true}
@@ -26,14 +26,13 @@ use Rattle.epoch_cache.specs.declared.cached.Touch.{Touch}
 use Rattle.epoch_cache.specs.declared.cached.Written.{Written}
 use Rattle.epoch_cache.specs.declared.cached.Written.TheVariants as written
 use Rattle.epoch_cache.specs.Cache.{all_current, is_moved, is_overwritten, is_spoiled, is_unknown_write, is_update, moves_one}
-use Rattle.rules.specs.declared.kept.Begun.{Begun}
 use Rattle.rules.specs.declared.kept.Kept.{Kept}
 use Rattle.rules.specs.Channels.{held_numbers}
 use Rattle.rules.specs.Kept.{job_of, operation_now}
 use Rattle.rules.specs.After.{facts_of, is_raw, is_raw_line, jobs_beside, refused_of, kept_after, kept_of}
 use Rattle.rules.specs.Laws.{KeptAgrees, KeptLooksBack, PlansForCard}
-use Rattle.rules.specs.Rules.{EditTurn, book_in, edit_turn, is_book_edited, is_book_kept, is_book_right, is_deciding, is_outside_raw, is_sent_right, is_update_right, has_right_edit, has_right_response, turn_operation}
-use Rattle.rules.specs.State.{content_on, shown_in, shown_on, view_in, world_of}
+use Rattle.rules.specs.Rules.{EditTurn, book_in, is_book_edited, is_book_kept, is_book_right, is_outside_raw, is_sent_right, is_update_right, has_right_edit, has_right_response, turn_operation}
+use Rattle.rules.specs.State.{content_on, shown_in, shown_on, world_of}
 use Rattle.performed.specs.Served.{serves}
 use Rattle.performed.specs.Followed.{is_followed, are_followed}
 use Rattle.performed.specs.Told.{are_told}

@@ -1,13 +1,11 @@
 -- The turn of an edit does what edits decide: it reads, writes, or rests, and tries no event.
-use Rattle.std.proofs.Common.{◌≡◌, ◌⊎◌, inl, inr, ℕ, zero, suc, ◌+◌, ◌==◌, Bool, true, false, Option, Some, None, List, [], ◌∷◌, refl, sym, ap, ◌∙◌, subst, true≢false}
+use Rattle.std.proofs.Common.{◌≡◌, inl, inr, ℕ, zero, suc, true, false, Option, Some, None, List, [], ◌∷◌, refl, sym, ap, ◌∙◌, subst, true≢false}
 use Rattle.std.proofs.lemmas.Bool.{and_parts, eq-eqb}
 use Rattle.adn.specs.declared.edit.Edit.{Edit}
-use Rattle.apdu.specs.Values.{CommandValue, ResponseValue}
 use Rattle.script_reader.specs.declared.types.Script.{Script}
 use Rattle.report.specs.declared.line.Line.{Line}
 use Rattle.report.specs.declared.line.Line.TheVariants as line
 use Rattle.rules.specs.declared.kept.Begun.{Begun}
-use Rattle.rules.specs.declared.kept.Decision.{Decision}
 use Rattle.rules.specs.declared.kept.Facts.{Facts}
 use Rattle.rules.specs.declared.kept.Kept.{Kept}
 use Rattle.rules.specs.declared.kept.Stage.{Stage}
@@ -15,9 +13,9 @@ use Rattle.rules.specs.declared.kept.Stage.TheVariants.{Fresh as fresh, Next as 
 use Rattle.rules.specs.declared.kept.Work.{Work}
 use Rattle.rules.specs.Channels.{held_numbers}
 use Rattle.rules.specs.Kept.{begun_of, begun_operation, job_of, operation_at, operation_now}
-use Rattle.rules.specs.After.{decision_at, decision_of_begun, edit_of, facts_of, fresh_begun, jobs_beside, refused_of, kept_after, kept_of}
+use Rattle.rules.specs.After.{decision_of_begun, edit_of, facts_of, fresh_begun, jobs_beside, refused_of, kept_after, kept_of}
 use Rattle.rules.specs.Due.{event_by_stage, event_of, tried_event}
-use Rattle.rules.specs.Work.{work_of_edit, work_of_operation}
+use Rattle.rules.specs.Work.{work_of_operation}
 use Rattle.rules.specs.Editing.{family_edit}
 use Rattle.script_reader.specs.declared.types.Operation.{Operation}
 use Rattle.script_reader.specs.declared.types.Operation.TheVariants as operation
@@ -27,8 +25,7 @@ use Rattle.performed.proofs.EditsBegun.{Came, stays, marks, begins, exchanges, f
 use Rattle.performed.proofs.EditsDecides.{OfEdits, work_passes}
 use Rattle.performed.proofs.EditsLines.{turn_work}
 use Rattle.performed.proofs.EditsScript.{Edits, sets, clears, edits_by, edit_is}
-use Rattle.performed.proofs.EpochFamily.{IsOld, old_by, is_begin}
-use Rattle.performed.proofs.TurnsJobs.{is_own}
+use Rattle.performed.proofs.EpochFamily.{old_by, is_begin}
 use Rattle.performed.proofs.TurnsSays.{begins_now}
 
 module _ (P : Work → Type 0) (each : OfEdits P) where

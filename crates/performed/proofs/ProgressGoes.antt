@@ -1,7 +1,6 @@
 -- What makes a line due in a turn whose beginning has done nothing yet.
-use Rattle.std.proofs.Common.{◌≡◌, ℕ, ◌&&◌, ◌||◌, not, Bool, true, false, if◌then◌else◌, List, [], ◌∷◌, Option, Some, None, is_some, is_none, refl, sym, ap, ◌∙◌, true≢false}
+use Rattle.std.proofs.Common.{◌≡◌, ℕ, ◌&&◌, ◌||◌, Bool, true, false, if◌then◌else◌, List, Option, Some, None, is_some, is_none, refl, sym, ap, ◌∙◌, true≢false}
 use Rattle.std.specs.Prelude.{option_and_then}
-use Rattle.std.proofs.lemmas.Bool.{and_from}
 use Rattle.apdu.specs.Values.{CommandValue}
 use Rattle.card_model.specs.declared.world.WorldEvent.{WorldEvent}
 use Rattle.card_model.specs.declared.world.WorldEvent.TheVariants as world_event
@@ -12,7 +11,7 @@ use Rattle.report.specs.declared.answer.Answer.{Answer}
 use Rattle.report.specs.declared.answer.Answer.TheVariants as answer
 use Rattle.families.specs.Families.{family_paths}
 use Rattle.epoch_cache.specs.declared.cached.CachedFile.{CachedFile}
-use Rattle.epoch_cache.specs.Cache.{is_current, all_current, first_missing}
+use Rattle.epoch_cache.specs.Cache.{all_current, first_missing}
 use Rattle.link.specs.declared.chain.Chain.{Chain}
 use Rattle.channels.specs.Channels.{on_channel, open_command, close_command}
 use Rattle.rules.specs.declared.holdings.Handle.{Handle}
@@ -32,6 +31,7 @@ use Rattle.rules.specs.Due.{with_card, with_ended, is_lost, loaded, outcome_answ
 use Rattle.rules.specs.Performed.{ends_turn}
 use Rattle.performed.specs.Served.{is_served}
 use Rattle.performed.proofs.ProgressSound.{lives_or_ended}
+use Rattle.performed.proofs.EditsDecides.{none_missing}
 use Rattle.performed.proofs.Lists.{all_found}
 use Rattle.performed.proofs.ProgressHandles.{is_sound_handle, are_sound_handles}
 
@@ -117,17 +117,6 @@ pub record IsFreshTurn (k : Kept) (actor : ℕ) : Type 0 where
   pub actor_is : k.turn.actor ≡ Some actor
   pub stage : k.turn.stage ≡ fresh
   pub published : k.turn.published ≡ None
-
--- no path is missing: all are current
-present_or : (path : List ℕ) (rest : Option (List ℕ)) (b : Bool) → (if not b then Some path else rest) ≡ None → (b ≡ true) × (rest ≡ None)
-present_or path rest true h = (refl, h)
-present_or path rest false h = absurd (cc)
-
-pub none_missing : (files : List CachedFile) (paths : List (List ℕ)) → first_missing files paths ≡ None → all_current files paths ≡ true
-none_missing files [] h = refl
-none_missing files (path ∷ paths) h =
-    let q = present_or path (first_missing files paths) (is_current files path) h in
-    and_from (is_current files path) (all_current files paths) q.0 (none_missing files paths q.1)
 
 abbrev read_of : Option (List ℕ) → Work
 read_of None = rests
