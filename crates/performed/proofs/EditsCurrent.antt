@@ -35,6 +35,7 @@ use Rattle.performed.specs.Followed.{is_followed, are_followed}
 use Rattle.performed.specs.Told.{is_told, are_told}
 use Rattle.performed.proofs.CalmAnswers.{told_response}
 use Rattle.performed.proofs.CalmSends.{never}
+use Rattle.performed.proofs.EditsAttempt.{answered_same}
 use Rattle.performed.proofs.EditsBegun.{near, Came, stays, marks, begins, exchanges, fails, came}
 use Rattle.performed.proofs.EditsKept.{How, still, by_raw, by_edit, how}
 use Rattle.performed.proofs.EditsState.{Edited, none_moved}
@@ -116,25 +117,6 @@ sent_later c None e a h = by_update (is_update_ins c.ins) h
     by_update : (b : Bool) → (if b then sent_update e else e).attempt ≡ Some a → HasLater e.attempt a
     by_update true q = by_attempt e.attempt refl q
     by_update false q = record { old = a; there = q; later = record { paths = refl; moved = refl } }
-
-updated_same : (f : ℕ) (selected : Option (List ℕ)) (event : ℕ) (c : CommandValue) (e : Editing) → (updated_by f selected event c e).attempt ≡ e.attempt
-updated_same f selected event c e = by_main (is_at selected (family_path f 0))
-  where
-    by_decided : (o : Option Decided) → (extended_by c o e).attempt ≡ e.attempt
-    by_decided None = refl
-    by_decided (Some d) = refl
-
-    by_main : (b : Bool) → (if b then decided_by event c e else extended_by c e.decided e).attempt ≡ e.attempt
-    by_main true = refl
-    by_main false = by_decided e.decided
-
-answered_same : (o : Option (ℕ × Edit)) (selected : Option (List ℕ)) (event : ℕ) (c : CommandValue) (r : ResponseValue) (e : Editing) → (editing_answered o selected event c r e).attempt ≡ e.attempt
-answered_same None selected event c r e = refl
-answered_same (Some (f, d)) selected event c r e = by_update (is_update c r)
-  where
-    by_update : (b : Bool) → (if b then updated_by f selected event c e else e).attempt ≡ e.attempt
-    by_update true = updated_same f selected event c e
-    by_update false = refl
 
 -- ---- a line
 
