@@ -9,6 +9,9 @@ use Rattle.apdu.specs.Apdu.{is_update_ins, same_response}
 use Rattle.card_effects.proofs.Same.{same_bytes_self}
 use Rattle.card_model.specs.Step.{step, card_inside}
 use Rattle.adn.specs.declared.edit.Edit.{Edit}
+use Rattle.adn.specs.declared.edit.Edit.TheVariants as edit
+use Rattle.std.proofs.lemmas.Str.{IsUtf8-from_is_utf8}
+use Rattle.rules.specs.Editing.{family_edit}
 use Rattle.adn.specs.declared.edit.PlanError.{PlanError}
 use Rattle.adn.specs.declared.edit.PlanError.TheVariants as plan_error
 use Rattle.families.specs.Families.{family_path}
@@ -61,7 +64,7 @@ use Rattle.performed.proofs.EditsKept.{How, still, by_raw, by_edit, how, own, ow
 use Rattle.performed.proofs.EditsLines.{edit_answers, writes_what}
 use Rattle.performed.proofs.EditsOver.{turn_over}
 use Rattle.performed.proofs.EditsRule.{update_right}
-use Rattle.performed.proofs.EditsScript.{Edits, sets, clears, edits_by, edit_is}
+use Rattle.performed.proofs.EditsScript.{edit_is}
 use Rattle.performed.proofs.EditsState.{Edited}
 use Rattle.performed.proofs.EditsWhole.{edited_of}
 use Rattle.performed.proofs.EpochBegun.{living_unended}
@@ -344,14 +347,34 @@ module _ (agrees : KeptAgrees) (plans : PlansForCard) (makes : PlansMakeEdits) (
 
 -- ---- the names of a served script's edits
 
-set_text : (op : Operation) (f : ℕ) (e : Edit) → is_served op ≡ true → Edits op f e → HasText e
-set_text op f e h (sets at name number is) = absurd (true≢false (sym h ∙ ap is_served is))
-set_text op f e h (clears at is) = absurd (true≢false (sym h ∙ ap is_served is))
+one_edit : (p q : ℕ × Edit) → Some p ≡ Some q → p ≡ q
+one_edit p q h = cc
+
+set_text : (op : Operation) (f : ℕ) (e : Edit) → is_served op ≡ true → family_edit op ≡ Some (f, e) → HasText e
+set_text (operation.Set g at name number) f e h is =
+    let same = ap (λ (p : ℕ × Edit). p.1) (one_edit (g, edit.Set at (record { name = name; number = number })) (f, e) is) in
+    subst HasText same (IsUtf8-from_is_utf8 name h)
+set_text (operation.Clear g at) f e h is =
+    let same = ap (λ (p : ℕ × Edit). p.1) (one_edit (g, edit.Clear at) (f, e) is) in
+    subst HasText same tt
+set_text (operation.Insert card) f e h is = absurd (cc)
+set_text operation.Out f e h is = absurd (cc)
+set_text (operation.Arm change) f e h is = absurd (cc)
+set_text (operation.Load g) f e h is = absurd (cc)
+set_text (operation.OpenChannel handle aid) f e h is = absurd (cc)
+set_text (operation.Raw handle apdu) f e h is = absurd (cc)
+set_text (operation.Close handle) f e h is = absurd (cc)
+set_text (operation.Verify key pin) f e h is = absurd (cc)
+set_text (operation.End key) f e h is = absurd (cc)
+set_text operation.Poll f e h is = absurd (cc)
+set_text operation.Look f e h is = absurd (cc)
+set_text (operation.Watch mask) f e h is = absurd (cc)
+set_text operation.Notices f e h is = absurd (cc)
 
 pub texts_of : (s : Script) → serves s ≡ true → HaveTexts s
 texts_of s served i n f e h =
     let x = edit_is (operation_at s i n) f e h in
-    set_text x.op f e (at_passes is_served s served i n x.op x.is) (edits_by x.op f e x.edits)
+    set_text x.op f e (at_passes is_served s served i n x.op x.is) x.edits
 
 -- no line breaks the rule of edits
 pub edits_right : KeptAgrees → PlansForCard → PlansMakeEdits → (s : Script) (earlier : List Line) (l : Line) → keeps_rules s ≡ true → serves s ≡ true → are_followed s (l ∷ earlier) ≡ true → are_told s (l ∷ earlier) ≡ true → has_right_edit s (world_of s earlier) (kept_of s earlier) l ≡ true

@@ -42,11 +42,11 @@ pub record IsDecided (s : Script) (k : Kept) (i f : ℕ) : Type 0 where
 
 -- ---- what was decided stays
 
-with_decided : (o : Option Attempt) (e : Editing) → (with_attempt o e).decided ≡ e.decided
+pub with_decided : (o : Option Attempt) (e : Editing) → (with_attempt o e).decided ≡ e.decided
 with_decided None e = refl
 with_decided (Some a) e = refl
 
-sent_decided : (c : CommandValue) (o : Option Chain) (e : Editing) → (editing_sent c o e).decided ≡ e.decided
+pub sent_decided : (c : CommandValue) (o : Option Chain) (e : Editing) → (editing_sent c o e).decided ≡ e.decided
 sent_decided c (Some chain) e = refl
 sent_decided c None e = by_update (is_update_ins c.ins)
   where

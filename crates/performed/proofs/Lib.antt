@@ -49,6 +49,7 @@ pub mod EpochSince
 pub mod EpochOver
 pub mod EditsWhole
 pub mod EditsOver
+pub mod EditsEpoch
 pub mod EditsCurrent
 pub mod EditsAwaited
 pub mod EditsShown
@@ -91,6 +92,7 @@ pub mod EpochWorld
 pub mod EpochEnds
 pub mod EpochNames
 pub mod EpochBegun
+pub mod EpochTold
 pub mod EpochLost
 pub mod EpochDecided
 pub mod EpochFiles
