@@ -1,0 +1,35 @@
+// How the words of a command are spelt, whatever command it is.
+ghost use Rattle.std.specs.Prelude.{◌≡◌};
+ghost use Rattle.subcommands.specs.Subcommands as spec;
+
+/// Whether the text is one to so many decimal digits.
+fn spells_number(most: usize, text: &str) -> bool
+    ensures { result ≡ spec.spells_number most text.now }
+{
+    let digits = text.as_bytes();
+    !digits.is_empty()
+        && digits.len() <= most
+        && digits.iter().all(|digit| digit.is_ascii_digit())
+}
+
+/// Whether the word stands where a command's name does.
+fn spells_name(word: &str) -> bool
+    ensures { result ≡ spec.spells_name word.now }
+{
+    word.as_bytes().first() != Some(&b'-')
+}
+
+/// Whether the words are a name, or a name with a seed and a size.
+pub fn are_spelt(words: &[String]) -> bool
+    ensures { result ≡ spec.are_spelt words.now }
+{
+    match words {
+        [name] => spells_name(name.as_str()),
+        [name, seed, size] => {
+            spells_name(name.as_str())
+                && spells_number(10, seed.as_str())
+                && spells_number(3, size.as_str())
+        }
+        _ => false,
+    }
+}
