@@ -1,12 +1,24 @@
 -- The command line as clap has it, and what it finds.
-use Rattle.std.specs.Prelude.{ℕ, ◌&&◌, ◌^◌, true, pos, nat_lt, if◌then◌else◌, List, Option, Some, None, option_and_then, codes}
+use Rattle.std.specs.Prelude.{◌≡◌, false, ℕ, ◌&&◌, ◌^◌, true, pos, nat_lt, if◌then◌else◌, List, Option, Some, None, option_and_then, codes}
 use Rattle.std.specs.Str.Parse.{digits_value, without_leading_plus}
 use Rattle.apdu.specs.Words.{same_bytes}
-use Rattle.clap.specs.Words.{App, Row, Rule, Shape, Text, new_app, new_rule, one_of, with_rule, with_subcommand}
+use Rattle.clap.specs.Words.{app_of, rule_of, App, Row, Rule, Shape, Text, new_app, new_rule, one_of, with_rule, with_subcommand}
 use Rattle.clap.specs.ValueTests.{is_numeral}
 use Rattle.clap.specs.declared.builder.value_parser.ValueParser.TheVariants.{Signed}
 use Rattle.subcommands.specs.declared.words.Subcommand.{Subcommand}
 use Rattle.subcommands.specs.declared.words.Subcommand.TheVariants.{Replay, Run, Check, Generate, Bulk}
+use Rattle.clap.specs.declared.builder.arg.Arg.{Arg}
+use Rattle.clap.specs.declared.builder.command.Command.{Command}
+use Rattle.clap.specs.declared.builder.command.Command.TheViews.{out-Command as fields_of}
+
+-- a parse reads this of the argument, or of the command, and no argument is global
+pub record IsArg (r : Rule) (arg : Arg) : Type 0 where
+  pub rule : rule_of arg ≡ r
+  pub local : arg.global ≡ false
+
+pub record IsLine (a : App) (command : Command) : Type 0 where
+  pub app : app_of command ≡ a
+  pub local : (fields_of command).has_globals ≡ false
 
 abbrev pub seed_rule : Rule
 seed_rule = record (new_rule (codes "SEED")) { required = true; parser = Some (Signed (pos 0) (pos 4294967295)) }

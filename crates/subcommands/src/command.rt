@@ -1,13 +1,12 @@
 // The program's command line, as clap reads it.
-ghost use Rattle.std.specs.Prelude.{◌≡◌, IfOk};
-ghost use Rattle.clap.specs.Words.{app_of, rule_of};
-ghost use Rattle.subcommands.specs.CommandLine.{seed_rule, size_rule, sized, settings, command_line};
+ghost use Rattle.std.specs.Prelude.{IfOk};
+ghost use Rattle.subcommands.specs.CommandLine.{IsArg, IsLine, seed_rule, size_rule, sized, settings, command_line};
 
 use clap::{Arg, Command, value_parser};
 use std::alloc::{AllocError, Global};
 
 fn seed<'a>(alloc: Global) -> Arg<'a>
-    ensures { rule_of result ≡ seed_rule }
+    ensures { IsArg seed_rule result }
 {
     Arg::new(alloc, "SEED")
         .required(true)
@@ -15,7 +14,7 @@ fn seed<'a>(alloc: Global) -> Arg<'a>
 }
 
 fn size<'a>(alloc: Global) -> Arg<'a>
-    ensures { rule_of result ≡ size_rule }
+    ensures { IsArg size_rule result }
 {
     Arg::new(alloc, "SIZE")
         .required(true)
@@ -24,14 +23,14 @@ fn size<'a>(alloc: Global) -> Arg<'a>
 
 /// A subcommand with a seed and a size.
 fn sized<'a>(alloc: Global, name: &'a str) -> Result<Command<'a>, AllocError>
-    ensures { IfOk result (λ command. app_of command ≡ sized name.now) }
+    ensures { IfOk result (IsLine (sized name.now)) }
 {
     Command::new(alloc, name).arg(seed(alloc))?.arg(size(alloc))
 }
 
 /// The program without its subcommands: no word before them, and no help.
 fn program<'a>(alloc: Global) -> Command<'a>
-    ensures { app_of result ≡ settings }
+    ensures { IsLine settings result }
 {
     Command::new(alloc, "uicc_replay")
         .no_binary_name(true)
@@ -42,7 +41,7 @@ fn program<'a>(alloc: Global) -> Command<'a>
 
 /// The program with its subcommands.
 pub fn command_line<'a>(alloc: Global) -> Result<Command<'a>, AllocError>
-    ensures { IfOk result (λ command. app_of command ≡ command_line) }
+    ensures { IfOk result (IsLine command_line) }
 {
     program(alloc)
         .subcommand(Command::new(alloc, "replay"))?

@@ -1,15 +1,22 @@
 // How the words of a command are spelt, whatever command it is.
 ghost use Rattle.std.specs.Prelude.{◌≡◌};
+ghost use Rattle.std.specs.List.{list_all};
+ghost use Rattle.std.specs.Char.{is_ascii_digit};
 ghost use Rattle.subcommands.specs.Subcommands as spec;
+
+/// Whether each of the bytes is a decimal digit.
+fn are_digits(bytes: &[u8]) -> bool
+    ensures { result ≡ list_all is_ascii_digit bytes.now }
+{
+    bytes.iter().all(|byte| byte.is_ascii_digit())
+}
 
 /// Whether the text is one to so many decimal digits.
 fn spells_number(most: usize, text: &str) -> bool
     ensures { result ≡ spec.spells_number most text.now }
 {
-    let digits = text.as_bytes();
-    !digits.is_empty()
-        && digits.len() <= most
-        && digits.iter().all(|digit| digit.is_ascii_digit())
+    let bytes = text.as_bytes();
+    !bytes.is_empty() && bytes.len() <= most && are_digits(bytes)
 }
 
 /// Whether the word stands where a command's name does.

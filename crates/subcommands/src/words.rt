@@ -1,5 +1,5 @@
 // What the words of a call ask for.
-ghost use Rattle.std.specs.Prelude.{◌≡◌, IfOk, IfSome};
+ghost use Rattle.std.specs.Prelude.{◌≡◌, IfOk, IfSome, codes};
 ghost use Rattle.clap.specs.Words.{found_of, rows_of, subcommand_rows_of};
 ghost use Rattle.subcommands.specs.Subcommands.{HasSize, subcommand_of};
 ghost use Rattle.subcommands.specs.CommandLine.{number_in, subcommand_in};
