@@ -9,5 +9,5 @@ use Rattle.subcommands.proofs.words.seed_in.Goals as goal
 pub returns : goal.returns
 returns c =
     let one = c.get_one.ensures in
-    reads_one _ 32 _ (λ text r given. given.0) _ c.get_one.result one.none one.value
+    reads_one 32 _ c.get_one.result one.none one.value
     ∙ ap (option_and_then (read_number 32)) (one_text-rows (found_of c.args.matches.now) _)
