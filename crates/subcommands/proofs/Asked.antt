@@ -1,18 +1,19 @@
 -- What clap makes of the words of a command is what they ask for.
-use Rattle.std.proofs.Common.{◌≡◌, ◌≢◌, ◌⊎◌, inl, inr, ◌∙◌, ℕ, ◌&&◌, ◌<◌, ◌≤◌, Bool, true, false, cond, refl, sym, ap, ap₂, subst, nat_le, arith, List, [], ◌∷◌, Option, Some, None, codes, true≢false}
+use Rattle.std.proofs.Common.{◌≡◌, ◌≢◌, ◌⊎◌, inl, inr, ◌∙◌, ℕ, ◌&&◌, ◌≤◌, Bool, true, false, cond, refl, sym, ap, ap₂, subst, nat_le, arith, List, [], ◌∷◌, Option, Some, None, codes, true≢false}
 use Rattle.std.specs.Prelude.{IfSome, option_and_then, unwrap_or}
 use Rattle.std.specs.Str.{bytes_eq}
 use Rattle.std.specs.Str.Parse.{digits_value}
 use Rattle.std.proofs.lemmas.Bool.{leb-true}
 use Rattle.std.proofs.lemmas.Slice.Eq.{bytes_eq-Decides}
 use Rattle.apdu.specs.Words.{is_between}
-use Rattle.clap.specs.Words.{IsAmong, Kinds, Row, Text, fault_of, subcommand_of}
+use Rattle.clap.specs.Words.{IsAmong, Kinds, Text, fault_of, subcommand_of}
 use Rattle.clap.specs.Kinds.{or_else}
 use Rattle.clap.specs.Lexer.{strip_byte}
 use Rattle.clap.specs.declared.error.kind.ErrorKind.{ErrorKind}
 use Rattle.clap.specs.declared.error.kind.ErrorKind.TheVariants as kind
 use Rattle.clap.proofs.WalkLemmas.{both}
-use Rattle.subcommands.specs.Subcommands.{HasSize, asked_by, number_of, seed_of, size_of, sized_of, spells_name, spells_number, texts_are_spelt}
+use Rattle.subcommands.specs.Subcommands.{HasSize, asked_by, seed_of, size_of, sized_of, spells_number}
+use Rattle.subcommands.specs.Spelling.{spells_name, texts_are_spelt}
 use Rattle.subcommands.specs.CommandLine.{command_line, number_in, read_number, sized_in, subcommand_in}
 use Rattle.subcommands.specs.declared.words.Subcommand.{Subcommand}
 use Rattle.subcommands.specs.declared.words.Subcommand.TheVariants.{Replay, Run, Check, Generate, Bulk}
@@ -70,18 +71,18 @@ named : (name : Text) → Named name
 named name = elim (either name (codes "replay")) [
   | inl e ↦ replay e
   | inr a ↦ elim (either name (codes "run")) [
-      | inl e ↦ run e
-      | inr b ↦ elim (either name (codes "check")) [
-          | inl e ↦ check e
-          | inr c ↦ elim (either name (codes "gen")) [
-              | inl e ↦ gen e
-              | inr d ↦ elim (either name (codes "bulk")) [
-                  | inl e ↦ bulk e
-                  | inr f ↦ other a b c d f
-                ]
-            ]
+    | inl e ↦ run e
+    | inr b ↦ elim (either name (codes "check")) [
+      | inl e ↦ check e
+      | inr c ↦ elim (either name (codes "gen")) [
+        | inl e ↦ gen e
+        | inr d ↦ elim (either name (codes "bulk")) [
+          | inl e ↦ bulk e
+          | inr f ↦ other a b c d f
         ]
+      ]
     ]
+  ]
 ]
 
 -- ---- a name alone
@@ -199,7 +200,6 @@ tells (name ∷ seed ∷ size ∷ []) e =
     let inner = both _ _ outer.0 in
     sized seed size inner.1 outer.1 name inner.0 (named name)
 tells (name ∷ seed ∷ size ∷ more ∷ words) e = absurd (true≢false (sym e))
-
 
 -- ---- the sizes
 

@@ -1,6 +1,6 @@
 -- The command line that the builders make.
-use Rattle.std.proofs.Common.{◌≡◌, ◌∙◌, ◌||◌, false, refl, ap, ap₂}
-use Rattle.clap.specs.Words.{App, AddsArg, AddsSubcommand, Rule, app_of, with_rule, with_subcommand}
+use Rattle.std.proofs.Common.{◌∙◌, ◌||◌, ap, ap₂}
+use Rattle.clap.specs.Words.{App, AddsArg, AddsSubcommand, Rule, with_rule, with_subcommand}
 use Rattle.clap.specs.declared.builder.arg.Arg.{Arg}
 use Rattle.clap.specs.declared.builder.command.Command.{Command}
 use Rattle.subcommands.specs.CommandLine.{IsArg, IsLine}

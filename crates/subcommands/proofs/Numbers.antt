@@ -1,5 +1,5 @@
 -- Numbers that are spelt as those of a command, and how clap reads them.
-use Rattle.std.proofs.Common.{◌≡◌, ◌∙◌, ℕ, ◌==◌, ◌&&◌, ◌<◌, ◌≤◌, ◌^◌, Bool, true, false, not, cond, refl, sym, ap, subst, rules, arith, List, [], ◌∷◌, length, Option, Some, None, Result, Ok, Err, true≢false, nat_lt, nat_le, lt-ltb, le-ltb, ltb-true}
+use Rattle.std.proofs.Common.{◌≡◌, ℕ, ◌==◌, ◌&&◌, ◌<◌, ◌≤◌, ◌^◌, Bool, true, false, refl, ap, arith, List, [], ◌∷◌, length, Option, Some, None, Result, Ok, Err, nat_lt, nat_le, lt-ltb, ltb-true}
 use Rattle.std.specs.Prelude.{pos, option_and_then}
 use Rattle.std.specs.List.{list_all}
 use Rattle.std.specs.Char.{digit_value, is_ascii_digit}
@@ -7,13 +7,14 @@ use Rattle.std.specs.Str.Parse.{AllDigits, ExplainsUnsignedError, HasUnsignedDig
 use Rattle.std.specs.declared.num.ParseIntError.{ParseIntError}
 use Rattle.std.proofs.lemmas.Bool.{leb-true, le-leb, ne_eqb}
 use native.Mathlib.Nat.{pow-le-pow_right}
-use Rattle.std.proofs.lemmas.Str.Parse.{IsDigitsTest, IsNumeralModel, numerals_by_value, digits_value_short, digit_from_value}
+use Rattle.std.proofs.lemmas.Str.Parse.{IsNumeralModel, numerals_by_value, digits_value_short}
 use Rattle.apdu.specs.Words.{is_between}
 use Rattle.clap.specs.Words.{ReadsOne, Text}
 use Rattle.clap.specs.ValueTests.{accepts, is_numeral}
 use Rattle.clap.specs.declared.builder.value_parser.ValueParser.TheVariants.{Signed}
 use Rattle.clap.proofs.WalkLemmas.{both}
-use Rattle.subcommands.specs.Subcommands.{spells_name, spells_number}
+use Rattle.subcommands.specs.Subcommands.{spells_number}
+use Rattle.subcommands.specs.Spelling.{spells_name}
 use Rattle.subcommands.specs.CommandLine.{read_number}
 
 -- ---- what `get_one` gives

@@ -1,8 +1,8 @@
 -- Words that are spelt as those of a command.
-use Rattle.std.proofs.Common.{◌≡◌, ◌≢◌, ◌⊎◌, inl, inr, ℕ, ◌==◌, ◌&&◌, ◌<◌, ◌≤◌, ◌^◌, Bool, true, false, not, cond, refl, sym, ap, arith, List, [], ◌∷◌, length, Option, None, true≢false}
+use Rattle.std.proofs.Common.{◌≡◌, ℕ, ◌==◌, Bool, true, false, not, refl, sym, List, [], ◌∷◌, None, true≢false}
 use Rattle.std.specs.Str.{bytes_eq}
 use Rattle.clap.specs.Lexer.{strip_byte}
-use Rattle.subcommands.specs.Subcommands.{spells_name}
+use Rattle.subcommands.specs.Spelling.{spells_name}
 
 not_true : (b : Bool) → not b ≡ true → b ≡ false
 not_true true e = absurd (true≢false (sym e))

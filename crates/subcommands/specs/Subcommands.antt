@@ -1,5 +1,5 @@
 -- What the words of a call ask for.
-use Rattle.std.specs.Prelude.{◌≤◌, ℕ, ◌==◌, ◌&&◌, Bool, true, false, not, if◌then◌else◌, List, [], ◌∷◌, length, map, Option, Some, None, option_and_then, codes, String, string_bytes}
+use Rattle.std.specs.Prelude.{◌≤◌, ℕ, ◌&&◌, Bool, if◌then◌else◌, List, [], ◌∷◌, length, map, Option, Some, None, option_and_then, codes, String, string_bytes}
 use Rattle.std.specs.List.{list_all}
 use Rattle.std.specs.Char.{is_ascii_digit}
 use Rattle.std.specs.Str.Parse.{digits_value}
@@ -56,21 +56,3 @@ HasSize Run = Unit {0}
 HasSize Check = Unit {0}
 HasSize (Generate seed size) = (1 ≤ size) × (size ≤ 250)
 HasSize (Bulk seed size) = (1 ≤ size) × (size ≤ 250)
-
--- ---- how words are spelt
-
--- the word does not begin with `-`
-abbrev pub spells_name : List ℕ → Bool
-spells_name [] = true
-spells_name (c ∷ cs) = not (c == 45)
-
-abbrev pub texts_are_spelt : List (List ℕ) → Bool
-texts_are_spelt [] = false
-texts_are_spelt (name ∷ []) = spells_name name
-texts_are_spelt (name ∷ seed ∷ []) = false
-texts_are_spelt (name ∷ seed ∷ size ∷ []) = spells_name name && spells_number 10 seed && spells_number 3 size
-texts_are_spelt (name ∷ seed ∷ size ∷ other ∷ words) = false
-
--- a name, or a name with two numbers
-abbrev pub are_spelt : List (String Global) → Bool
-are_spelt words = texts_are_spelt (map string_bytes words)

@@ -2,7 +2,8 @@
 ghost use Rattle.std.specs.Prelude.{◌≡◌};
 ghost use Rattle.std.specs.List.{list_all};
 ghost use Rattle.std.specs.Char.{is_ascii_digit};
-ghost use Rattle.subcommands.specs.Subcommands as spec;
+ghost use Rattle.subcommands.specs.Subcommands as numbers;
+ghost use Rattle.subcommands.specs.Spelling as spec;
 
 /// Whether each of the bytes is a decimal digit.
 fn are_digits(bytes: &[u8]) -> bool
@@ -13,13 +14,13 @@ fn are_digits(bytes: &[u8]) -> bool
 
 /// Whether the text is one to so many decimal digits.
 fn spells_number(most: usize, text: &str) -> bool
-    ensures { result ≡ spec.spells_number most text.now }
+    ensures { result ≡ numbers.spells_number most text.now }
 {
     let bytes = text.as_bytes();
     !bytes.is_empty() && bytes.len() <= most && are_digits(bytes)
 }
 
-/// Whether the word stands where a command's name does.
+/// Whether the word does not begin with `-`.
 fn spells_name(word: &str) -> bool
     ensures { result ≡ spec.spells_name word.now }
 {

@@ -1,7 +1,6 @@
 use Rattle.std.proofs.Common.{codes}
 use Rattle.std.proofs.lemmas.Result.{IfOk-weaker}
 use Rattle.clap.specs.Words.{App, new_app}
-use Rattle.clap.specs.declared.builder.command.Command.{Command}
 use Rattle.subcommands.specs.CommandLine.{IsLine, settings, sized, with_single, with_sized}
 use Rattle.subcommands.proofs.Built.{line_with_subcommand}
 use Rattle.subcommands.proofs.command.command_line.Goals as goal

@@ -1,10 +1,11 @@
-use Rattle.std.proofs.Common.{◌≡◌, ◌∙◌, true, false, map, not, ap, sym, subst, rules, List, [], inl, inr, None}
+use Rattle.std.proofs.Common.{◌≡◌, ◌∙◌, true, map, ap, sym, subst, rules, List, inl, inr, None}
 use Rattle.std.specs.Prelude.{IfSome, string_bytes}
 use Rattle.clap.specs.Words.{App, IsAmong, Text, fault_of, kind_of, is_simple, is_simple_and_free, subcommand_of}
-use Rattle.subcommands.specs.Subcommands.{HasSize, asked_by, texts_are_spelt}
-use Rattle.subcommands.specs.CommandLine.{command_line, subcommand_in}
+use Rattle.subcommands.specs.Subcommands.{HasSize, asked_by}
+use Rattle.subcommands.specs.Spelling.{texts_are_spelt}
+use Rattle.subcommands.specs.CommandLine.{subcommand_in}
 use Rattle.subcommands.proofs.Found.{simple, simple_and_free}
-use Rattle.subcommands.proofs.Asked.{Tells, asked_has_size, tells}
+use Rattle.subcommands.proofs.Asked.{asked_has_size, tells}
 use Rattle.subcommands.proofs.words.read_words.Goals as goal
 
 pub returns-in-Ok-clause-value : goal.returns-in-Ok-clause-value
