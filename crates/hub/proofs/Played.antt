@@ -92,8 +92,7 @@ left_by a c false x = refl
 
 failed_shows : (s : Script) (k : Kept) (a : ℕ) (c : CommandValue) (acted : Bool) (e : SlotFault) (x : World) (v : Option World) (p : Plan) → IsPlanOf s k p → k.history.calls + 1 < 2 ^ 64 → PlannedExchange {T = ResponseValue} (fault_of_plan p) x v c (Err e) → is_some (card_inside x) ≡ true → acted ≡ acted_of (next_fault s k) → (v ≡ Some (world_after (line.Failed a c acted) x)) × (is_told s x k (line.Failed a c acted) ≡ true)
 failed_shows s k a c acted e x v p plan n h inside flag =
-    let same : acted_of (fault_of_plan p) ≡ acted = ap acted_of (same_fault s k p plan n) ∙ sym flag in
-    (
+    let same : acted_of (fault_of_plan p) ≡ acted = ap acted_of (same_fault s k p plan n) ∙ sym flag in (
       h.left ∙ ap (λ (b : Bool). Some (if b then (step x c).0 else x)) same ∙ ap (λ (y : World). Some y) (left_by a c acted x),
       failed_told s k a c acted x (fails_as s k p x true plan n h.fails) inside flag,
     )

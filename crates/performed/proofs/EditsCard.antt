@@ -27,7 +27,6 @@ use Rattle.refresh_cmd.specs.Proactive.{read_proactive}
 use Rattle.editor.specs.Editing.{card_need}
 use Rattle.rules.specs.State.{view_in, content_on}
 use Rattle.rules.specs.Rules.{has_right_response}
-
 use Rattle.performed.proofs.CalmLent.{steps_card, card_there}
 use Rattle.performed.proofs.SteadyShown.{AllUnarmed, told_status, inside_unarmed, none_armed, files_stay}
 use Rattle.performed.proofs.EditsFinal.{update_final}
