@@ -237,9 +237,20 @@ pub record IsGenerated (seed size : ℕ) (before after : SourceValue) (e : Endin
   pub due : IsDueOfSizes seed size e
   pub unread : after ≡ before
 
--- words that are no command that is served read nothing
+-- the ending of words that are no command that is served
+abbrev pub IsDueOfNone : Ending → Type 0
+IsDueOfNone Usage = Unit {0}
+IsDueOfNone TooLong = ⊥
+IsDueOfNone (Refused line) = ⊥
+IsDueOfNone ReadFault = ⊥
+IsDueOfNone (Spent line) = ⊥
+IsDueOfNone Memory = Unit {0}
+IsDueOfNone (Replayed report text) = ⊥
+IsDueOfNone (Generated text) = ⊥
+
+-- such words read nothing
 pub record IsUsage (before after : SourceValue) (e : Ending) : Type 0 where
-  pub ending : (e ≡ Usage) ⊎ (e ≡ Memory)
+  pub due : IsDueOfNone e
   pub unread : after ≡ before
 
 -- the cause of each ending, of the words and of what the source was before and after

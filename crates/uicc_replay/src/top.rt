@@ -153,6 +153,7 @@ fn ending_of_command<S: Source, K: Sink>(
 }
 
 /// How the call ends.
+#[tactic(auto, using(crate::proofs::Unread::memory_is_due))]
 fn ending_of<S: Source, K: Sink>(
     alloc: Global,
     words: &[String],
