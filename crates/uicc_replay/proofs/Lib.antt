@@ -4,4 +4,4 @@ pub mod Rounds
 pub mod Taken
 pub mod Turns
 pub mod Ends
-mod Unread
+pub mod Unread

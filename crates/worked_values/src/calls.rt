@@ -20,8 +20,14 @@ fn words_of_commands(rt: HostRuntime) -> Result<(), Fail> {
     assert_eq!(rt; read(alloc, &["run"])?, Some(Subcommand::Run));
     assert_eq!(rt; read(alloc, &["check"])?, Some(Subcommand::Check));
     let (seed, size) = (4_294_967_295, 250);
-    assert_eq!(rt; read(alloc, &["gen", "4294967295", "250"])?, Some(Subcommand::Generate { seed, size }));
+    assert_eq!(rt;
+        read(alloc, &["gen", "4294967295", "250"])?,
+        Some(Subcommand::Generate { seed, size })
+    );
     let (seed, size) = (0, 1);
-    assert_eq!(rt; read(alloc, &["bulk", "0000000000", "001"])?, Some(Subcommand::Bulk { seed, size }));
+    assert_eq!(rt;
+        read(alloc, &["bulk", "0000000000", "001"])?,
+        Some(Subcommand::Bulk { seed, size })
+    );
     Ok(())
 }
