@@ -5,17 +5,20 @@ use Rattle.apdu.specs.Words.{same_bytes}
 use Rattle.clap.specs.Words.{app_of, rule_of, App, Row, Rule, Shape, Text, new_app, new_rule, one_of, with_rule, with_subcommand}
 use Rattle.clap.specs.ValueTests.{is_numeral}
 use Rattle.clap.specs.declared.builder.value_parser.ValueParser.TheVariants.{Signed}
-use Rattle.subcommands.specs.declared.words.Subcommand.{Subcommand}
-use Rattle.subcommands.specs.declared.words.Subcommand.TheVariants.{Replay, Run, Check, Generate, Bulk}
 use Rattle.clap.specs.declared.builder.arg.Arg.{Arg}
 use Rattle.clap.specs.declared.builder.command.Command.{Command}
 use Rattle.clap.specs.declared.builder.command.Command.TheViews.{out-Command as fields_of}
+use Rattle.subcommands.specs.declared.words.Subcommand.{Subcommand}
+use Rattle.subcommands.specs.declared.words.Subcommand.TheVariants.{Replay, Run, Check, Generate, Bulk}
 
--- a parse reads this of the argument, or of the command, and no argument is global
+-- ---- the command line
+
+-- a parse reads this of the argument, and it is not global
 pub record IsArg (r : Rule) (arg : Arg) : Type 0 where
   pub rule : rule_of arg ≡ r
   pub local : arg.global ≡ false
 
+-- a parse reads this of the command, and it has no global argument
 pub record IsLine (a : App) (command : Command) : Type 0 where
   pub app : app_of command ≡ a
   pub local : (fields_of command).has_globals ≡ false
@@ -26,9 +29,11 @@ seed_rule = record (new_rule (codes "SEED")) { required = true; parser = Some (S
 abbrev pub size_rule : Rule
 size_rule = record (new_rule (codes "SIZE")) { required = true; parser = Some (Signed (pos 1) (pos 250)) }
 
+-- a subcommand with a seed and a size
 abbrev pub sized : Text → App
 sized name = with_rule (with_rule (new_app name) seed_rule) size_rule
 
+-- the words have no program before them, name a subcommand, and ask for no help
 abbrev pub settings_of : Shape → Shape
 settings_of s = record s {
   no_binary_name = true;
@@ -52,7 +57,7 @@ command_line =
 
 -- ---- what is found
 
--- the number of so many bits that a text writes
+-- the number of so many bits that a text writes, a plus before it left aside
 abbrev pub read_number : ℕ → Text → Option ℕ
 read_number bits text =
     if is_numeral (without_leading_plus text) && nat_lt (digits_value 10 (without_leading_plus text)) (2 ^ bits)
