@@ -1,4 +1,3 @@
-pub mod Editables
 pub mod Following
 pub mod Judged
 pub mod Knowing
@@ -9,5 +8,6 @@ pub mod Saying
 pub mod Scripts
 pub mod Sent
 pub mod States
+pub mod Still
 pub mod Stepping
 pub mod UpTo

@@ -1,44 +1,10 @@
--- The plan of an edit for the card in the slot.
-use Rattle.std.proofs.Common.{◌≡◌, ◌==◌, ◌&&◌, ◌||◌, ◌⊎◌, inl, inr, ℕ, Bool, true, false, Option, Some, None, List, [], ◌∷◌, refl, sym, subst, eqb-true, true≢false}
-use Rattle.std.specs.Prelude.{slice_get}
-use Rattle.adn.specs.declared.edit.Edit.{Edit}
+-- Two plans, of which each has at most three updates, have the same updates.
+use Rattle.std.proofs.Common.{◌≡◌, ◌&&◌, Bool, true, false, Option, Some, None, [], ◌∷◌, refl}
 use Rattle.adn.specs.declared.edit.RowUpdate.{RowUpdate}
 use Rattle.adn.specs.declared.edit.Plan.{Plan}
-use Rattle.adn.specs.declared.edit.PlanError.{PlanError}
-use Rattle.card_model.specs.declared.world.World.{World}
-use Rattle.epoch_cache.specs.Cache.{view_of_files}
-use Rattle.families.specs.Families.{View, family_path, family_paths, family_plan}
-use Rattle.families.specs.Plans.{plan_updates, some_first, plan_edit}
-use Rattle.script_reader.specs.Operations.{is_editable}
-use Rattle.rules.specs.State.{view_in}
-use Rattle.rules.specs.Rules.{same_update as same, same_updates, updates_of}
-use Rattle.trace_check.specs.Plans.{files_now, file_now, same_at, same_plan}
-
-or_parts : (a b : Bool) → a || b ≡ true → (a ≡ true) ⊎ (b ≡ true)
-or_parts true b h = inl refl
-or_parts false b h = inr h
-
--- a family that can be edited is the phonebook or the fixed dialling numbers
-one_or_two : (P : ℕ → Type 0) (f : ℕ) → is_editable f ≡ true → P 1 → P 2 → P f
-one_or_two P f h one two = elim (or_parts (1 == f) ((2 == f) || false) h) [
-  | inl e ↦ subst P (eqb-true 1 f e) one
-  | inr e ↦ elim (or_parts (2 == f) false e) [ inl d ↦ subst P (eqb-true 2 f d) two | inr d ↦ absurd (true≢false (sym d)) ]
-]
-
--- it has two paths
-pub two_paths : (f : ℕ) → is_editable f ≡ true → family_paths f ≡ family_path f 0 ∷ family_path f 1 ∷ []
-two_paths f h = one_or_two (λ f. family_paths f ≡ family_path f 0 ∷ family_path f 1 ∷ []) f h refl refl
-
-main_now : (world : World) (f : ℕ) → is_editable f ≡ true → view_of_files (files_now world f) (family_path f 0) ≡ view_in world (family_path f 0)
-main_now world f h = one_or_two (λ f. view_of_files (files_now world f) (family_path f 0) ≡ view_in world (family_path f 0)) f h refl refl
-
-ext_now : (world : World) (f : ℕ) → is_editable f ≡ true → view_of_files (files_now world f) (family_path f 1) ≡ view_in world (family_path f 1)
-ext_now world f h = one_or_two (λ f. view_of_files (files_now world f) (family_path f 1) ≡ view_in world (family_path f 1)) f h refl refl
-
-pub plan_now : (world : World) (f : ℕ) (e : Edit) → is_editable f ≡ true → family_plan f e (view_of_files (files_now world f)) ≡ family_plan f e (view_in world)
-plan_now world f e h = rw (main_now world f h, ext_now world f h) refl
-
--- ---- the updates of two plans, of which each has at most three
+use Rattle.families.specs.Plans.{plan_updates, some_first}
+use Rattle.rules.specs.Rules.{same_update as same, same_updates}
+use Rattle.trace_check.specs.Plans.{same_plan}
 
 and_1_1 : (a : Bool) → a && true && true ≡ a && true
 and_1_1 true = refl

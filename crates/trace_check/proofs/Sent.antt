@@ -9,7 +9,7 @@ use Rattle.report.specs.declared.line.Mode.{Mode}
 use Rattle.report.specs.declared.line.Line.{Line}
 use Rattle.report.specs.declared.line.Line.TheVariants as line
 use Rattle.rules.specs.declared.kept.Kept.{Kept}
-use Rattle.planner.specs.Room.{handles_fit, turn_fits}
+use Rattle.planner.specs.Room.{handles_fit}
 use Rattle.rules.specs.After.{kept_after}
 use Rattle.rules.specs.State.{State, world_after}
 use Rattle.rules.specs.Rules.{EditTurn, edit_turn, is_outside_raw, is_sent_right, is_book_right, is_lost_book_right, is_response_right, has_right_edit, world_failed}
@@ -19,7 +19,11 @@ use Rattle.tracker.specs.Room.{HasRoom}
 use Rattle.trace_check.specs.declared.behind.Behind.{Behind}
 use Rattle.trace_check.specs.declared.edits.Update.TheVariants.{Free}
 use Rattle.trace_check.specs.Edits.{update_by, update_before, is_right_behind, is_right_lost}
-use Rattle.trace_check.specs.Judging.{is_sent, sent_tests, lowest_sent, is_refused, boards_behind, displays_behind, world_tested, world_followed, Tested, Followed, Follows, IsReady, HasSpace}
+use Rattle.trace_check.specs.Judging.{is_sent, sent_tests, lowest_sent, is_refused, boards_behind, displays_behind, world_tested, world_followed, tests_now, Tested, MayFollow, Followed, Follows, HasSpace}
+use Rattle.trace_check.specs.Displays.{AreShown}
+use Rattle.trace_check.specs.declared.displays.Displays.{Displays}
+use Rattle.trace_check.proofs.Following.{never_refused}
+use Rattle.trace_check.proofs.Still.{shown_tested}
 
 -- ---- the rule of edits
 
@@ -93,14 +97,6 @@ world_follows (line.EpochEnd k e n) w = refl
 world_follows (line.Refused f n) w = refl
 world_follows (line.Answered a i given) w = refl
 
-pub space_tested : (l : Line) (old mid : Behind) → HasSpace old → Tested l old mid → HasSpace mid
-space_tested l old mid h t = record {
-  ready = record { faults = t.faults; boards = ap length t.boards ∙ h.ready.boards ∙ ap (λ (k : Kept). k.publications) (sym t.kept) };
-  room = subst HasRoom (sym t.kept) h.room;
-  handles = ap (λ (k : Kept). handles_fit k.handles) t.kept ∙ h.handles;
-  turn = ap (λ (k : Kept). turn_fits k.turn.actor k.jobs) t.kept ∙ h.turn;
-}
-
 taken_by : (l : Line) (w : World) → is_refused w l ≡ false → is_refused (world_tested l w) l ≡ false
 taken_by (line.World a e) w h = h
 taken_by (line.Exchange a c r) w h = refl
@@ -114,8 +110,15 @@ taken_by (line.EpochEnd k e n) w h = refl
 taken_by (line.Refused f n) w h = refl
 taken_by (line.Answered a i given) w h = refl
 
-pub taken_tested : (l : Line) (old mid : Behind) → Tested l old mid → is_refused old.slot.world l ≡ false → is_refused mid.slot.world l ≡ false
-taken_tested l old mid t h = ap (λ (w : World). is_refused w l) t.world ∙ taken_by l old.slot.world h
+-- a line that breaks no rule can be followed behind its test
+pub tested_follow : (s : Script) (m : Mode) (l : Line) (old mid : Behind) → HasSpace old → lowest_broken (tests_now s m l old) ≡ None → Tested l old mid → MayFollow l mid
+tested_follow s m l old mid h none t = record {
+  faults = t.faults;
+  taken = ap (λ (w : World). is_refused w l) t.world ∙ taken_by l old.slot.world (never_refused s m l old none);
+  shown = λ q. shown_tested l old.slot.world mid.slot.world mid.displays t.world (subst (λ (d : Displays). AreShown old.slot.world d) (sym t.displays) h.ready.shown) q;
+  room = subst HasRoom (sym t.kept) h.room;
+  handles = ap (λ (k : Kept). handles_fit k.handles) t.kept ∙ h.handles;
+}
 
 pub tested_follows : (s : Script) (l : Line) (old mid new : Behind) → Tested l old mid → Followed s l mid new → Follows s l old new
 tested_follows s l old mid new t f =

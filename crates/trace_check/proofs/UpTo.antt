@@ -6,6 +6,7 @@ use Rattle.report.specs.declared.lines.Report.{Report}
 use Rattle.rules.specs.Legal.{lowest_broken, at_line, first_broken}
 use Rattle.trace_check.specs.declared.behind.Behind.{Behind}
 use Rattle.trace_check.specs.Behind.{IsBehind}
+use Rattle.trace_check.specs.Displays.{AreShown}
 use Rattle.trace_check.specs.Judging.{tests_now, end_tests_now, IsFirst, IsReady, Follows}
 use Rattle.trace_check.proofs.Judged.{seen, seen_more, seen_all, IsUnbroken, unbroken_first, unbroken_more, first_at, first_at_end}
 use Rattle.trace_check.proofs.Knowing.{lowest_now, lowest_at_end}
@@ -20,7 +21,15 @@ pub upto_first : (r : Report) (b : Behind) → IsFirst r.script b → UpTo r 0 b
 upto_first r b h = record { behind = behind_none r.script b h; judged = unbroken_first r.script r.mode }
 
 pub upto_ready : (r : Report) (at : ℕ) (b : Behind) → UpTo r at b → IsReady b
-upto_ready r at b h = record { faults = h.behind.faults; boards = h.behind.count ∙ ap (λ k. k.publications) (sym h.behind.kept) }
+upto_ready r at b h = record {
+  faults = h.behind.faults;
+  boards = h.behind.count ∙ ap (λ k. k.publications) (sym h.behind.kept);
+  shown = subst (λ w. AreShown w b.displays) (sym h.behind.world) (record {
+    records = h.behind.displays.records.shown;
+    phonebook = h.behind.displays.phonebook.shown;
+    fixed = h.behind.displays.fixed.shown;
+  });
+}
 
 pub upto_more : (r : Report) (at : ℕ) (b b' : Behind) (l : Line) → slice_get (reverse r.lines) at ≡ Some l → UpTo r at b → lowest_broken (tests_now r.script r.mode l b) ≡ None → Follows r.script l b b' → UpTo r (at + 1) b'
 upto_more r at b b' l e h none follows =

@@ -1,9 +1,12 @@
 -- What the card shows of each family, kept along the lines: it takes the place of looking back for the last change and for the texts of
 -- publications.
-use Rattle.std.specs.Prelude.{ℕ, ◌==◌, ◌&&◌, Bool, true, false, max, nat_lt, if◌then◌else◌, List, [], ◌∷◌, Option, Some, None}
+use Rattle.std.specs.Prelude.{◌≡◌, ℕ, ◌==◌, ◌&&◌, ◌||◌, not, Bool, true, false, max, nat_lt, if◌then◌else◌, List, [], ◌∷◌, Option, Some, None}
 use Rattle.apdu.specs.Words.{has_value}
+use Rattle.apdu.specs.Apdu.{is_update_ins, fetch_ins}
 use Rattle.card_model.specs.declared.world.World.{World}
 use Rattle.families.specs.Families.{records as family_of_records, phonebook as family_of_phonebook, fixed as family_of_fixed}
+use Rattle.report.specs.declared.line.Line.{Line}
+use Rattle.report.specs.declared.line.Line.TheVariants as line
 use Rattle.rules.specs.declared.kept.Kept.{Kept}
 use Rattle.rules.specs.declared.standing.Standing.{Standing}
 use Rattle.rules.specs.Work.{is_quiet}
@@ -38,6 +41,18 @@ all_changed step d = record {
 
 abbrev pub all_refreshed : ℕ → World → Displays → Displays
 all_refreshed event world d = all_changed (λ f. refreshed f event world) d
+
+-- an exchange, done or failed, of a command that writes no file: no UPDATE, and no FETCH, which hands a change over
+abbrev pub writes_nothing : Line → Bool
+writes_nothing (line.Exchange a c r) = not (is_update_ins c.ins || (c.ins == fetch_ins))
+writes_nothing (line.Failed a c d) = not (is_update_ins c.ins || (c.ins == fetch_ins))
+writes_nothing l = false
+
+-- they are what the card in the slot shows
+pub record AreShown (world : World) (d : Displays) : Type 0 where
+  pub records : d.records.shown ≡ shown_in world family_of_records
+  pub phonebook : d.phonebook.shown ≡ shown_in world family_of_phonebook
+  pub fixed : d.fixed.shown ≡ shown_in world family_of_fixed
 
 -- ---- behind a publication
 

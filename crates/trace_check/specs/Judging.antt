@@ -18,7 +18,7 @@ use Rattle.rules.specs.State.{State, world_after, empty_board}
 use Rattle.rules.specs.Rules.{is_count_right, same_board, has_right_verify, has_right_place, has_right_fault}
 use Rattle.rules.specs.Legal.{Tests, mark_tests, other_tests, end_tests, first_false}
 use Rattle.tracker.specs.Room.{HasRoom}
-use Rattle.trace_check.specs.Displays.{first_displays, all_refreshed, all_told, is_rest_right}
+use Rattle.trace_check.specs.Displays.{first_displays, all_refreshed, all_told, is_rest_right, writes_nothing, AreShown}
 use Rattle.trace_check.specs.declared.behind.Behind.{Behind}
 use Rattle.trace_check.specs.declared.displays.Displays.{Displays}
 use Rattle.trace_check.specs.declared.judge.Sent.{Sent}
@@ -73,10 +73,11 @@ lowest_sent edits t = first_false 1 (true ∷ true ∷ edits ∷ true ∷ true �
 
 -- ---- what stands behind a line
 
--- no call is planned to fail, and there is a board for each publication
+-- no call is planned to fail, there is a board for each publication, and what the card shows is known
 pub record IsReady (b : Behind) : Type 0 where
   pub faults : b.slot.plan.faults ≡ []
   pub boards : length b.boards ≡ b.tracker.publications
+  pub shown : AreShown b.slot.world b.displays
 
 -- the same, and one more line can be followed
 pub record HasSpace (b : Behind) : Type 0 where
@@ -85,6 +86,19 @@ pub record HasSpace (b : Behind) : Type 0 where
   pub handles : handles_fit b.tracker.handles ≡ true
   pub turn : turn_fits b.tracker.turn.actor b.tracker.jobs ≡ true
 
+-- the slot refuses the line's event of the world
+abbrev pub is_refused : World → Line → Bool
+is_refused world (line.World a e) = is_some (refusal_of world e)
+is_refused world l = false
+
+-- the line can be followed, behind its test
+pub record MayFollow (l : Line) (b : Behind) : Type 0 where
+  pub faults : b.slot.plan.faults ≡ []
+  pub taken : is_refused b.slot.world l ≡ false
+  pub shown : writes_nothing l ≡ true → AreShown b.slot.world b.displays
+  pub room : HasRoom b.tracker
+  pub handles : handles_fit b.tracker.handles ≡ true
+
 -- before the first line
 pub record IsFirst (s : Script) (b : Behind) : Type 0 where
   pub world : b.slot.world ≡ first_world s
@@ -92,11 +106,6 @@ pub record IsFirst (s : Script) (b : Behind) : Type 0 where
   pub kept : b.tracker ≡ nothing_kept s
   pub boards : b.boards ≡ []
   pub displays : b.displays ≡ first_displays (first_world s)
-
--- the slot refuses the line's event of the world
-abbrev pub is_refused : World → Line → Bool
-is_refused world (line.World a e) = is_some (refusal_of world e)
-is_refused world l = false
 
 -- an exchange changes the world as it is tested
 abbrev pub world_tested : Line → World → World

@@ -1,19 +1,9 @@
--- The files of a book as the card in the slot has them, and the updates of two plans.
-use Rattle.std.specs.Prelude.{ℕ, ◌==◌, ◌&&◌, Bool, true, false, List, [], ◌∷◌, slice_get, Option, Some, None}
+-- The updates of two plans.
+use Rattle.std.specs.Prelude.{ℕ, ◌&&◌, Bool, true, false, slice_get, Option, Some, None}
 use Rattle.adn.specs.declared.edit.RowUpdate.{RowUpdate}
 use Rattle.adn.specs.declared.edit.Plan.{Plan}
-use Rattle.card_model.specs.declared.world.World.{World}
-use Rattle.families.specs.Families.{family_path}
 use Rattle.families.specs.Plans.{plan_updates}
-use Rattle.epoch_cache.specs.declared.cached.CachedFile.{CachedFile}
-use Rattle.rules.specs.State.{view_in}
 use Rattle.rules.specs.Rules.{same_update as same_updates_of}
-
-abbrev pub file_now : World → ℕ → ℕ → List ℕ → CachedFile
-file_now world f at path = record { path = path; content = view_in world (family_path f at); arr = None }
-
-abbrev pub files_now : World → ℕ → List CachedFile
-files_now world f = file_now world f 0 (family_path f 0) ∷ file_now world f 1 (family_path f 1) ∷ []
 
 abbrev pub same_update : Option RowUpdate → Option RowUpdate → Bool
 same_update None None = true

@@ -7,18 +7,23 @@ ghost use Rattle.script_reader.specs.Rules.{keeps_rules};
 ghost use Rattle.script_reader.specs.World.{first_world};
 ghost use Rattle.tracker.specs.Lines as kind;
 ghost use Rattle.tracker.specs.Room.{HasRoom};
+ghost use Rattle.trace_check.specs.Displays as display_spec;
 ghost use Rattle.trace_check.specs.Judging as spec;
 
 use crate::boards::{Boards, keep_board};
 use crate::displays::{Displays, first_displays, refresh_all, tell_all};
+use crate::edits::is_update_ins;
+use crate::plans::FamilyPlans;
 use apdu::{Memory, Sequence};
 use card_model::{ScriptedSlot, Slot, World};
-use planner::{EditPlans, decision_at_begin, decision_at_turn, handles_fit, turn_fits};
+use planner::{decision_at_begin, decision_at_turn, handles_fit, turn_fits};
 use report::{Line, Mode};
 use script::Script;
 use sim_card::SimSlot;
 use std::alloc::Global;
 use tracker::Tracker;
+
+const FETCH: u8 = 0x12;
 
 /// What stands behind the lines so far.
 #[derive(Drop)]
@@ -87,7 +92,21 @@ fn step_world(line: &Line, slot: &mut SimSlot)
     }
 }
 
-/// What the card shows, and the board, behind a line, which left this world; `event` is its number where it is one.
+/// Whether it is an exchange, done or failed, of a command that writes no file.
+fn writes_nothing(line: &Line) -> bool
+    ensures { result ≡ display_spec.writes_nothing line.now }
+{
+    match line {
+        Line::Exchange { command, .. } | Line::Failed { command, .. } => {
+            !(is_update_ins(command.ins) || command.ins == FETCH)
+        }
+        _ => false,
+    }
+}
+
+/// What the card shows, and the board, behind a line, which left this world; `event` is its number where it is one. Where no file was
+/// written, what the card showed before is what it shows.
+#[tactic(auto, using(crate::proofs::Still::stays_behind))]
 fn keep_displays(
     alloc: Global,
     line: &Line,
@@ -95,9 +114,14 @@ fn keep_displays(
     world: &World,
     displays: &mut Displays,
 ) -> Result<(), Memory>
+    requires { display_spec.writes_nothing line.now ≡ true
+        → display_spec.AreShown world.now displays.old }
     ensures { OnOk result (displays.new
         ≡ spec.displays_behind line.now event world.now displays.old) }
 {
+    if writes_nothing(line) {
+        return Ok(());
+    }
     match line {
         Line::Exchange { .. }
         | Line::Failed { .. }
@@ -115,14 +139,13 @@ fn keep_displays(
 
 /// By what lines are judged.
 #[derive(Drop)]
-pub struct Bench<'a, P> {
+pub struct Bench<'a> {
     pub alloc: Global,
-    pub plans: &'a P,
     pub script: &'a Script,
     pub mode: Mode,
 }
 
-impl<P: EditPlans> Bench<'_, P> {
+impl Bench<'_> {
     #[tactic(auto, using(crate::proofs::Scripts::few_actors))]
     fn keep_turn(&self, actor: u8, tracker: &mut Tracker) -> Result<(), Memory>
         requires rules { keeps_rules self.now.script.now ≡ true }
@@ -136,7 +159,7 @@ impl<P: EditPlans> Bench<'_, P> {
             return Ok(());
         }
         let kept = tracker.kept();
-        let decision = decision_at_turn(self.alloc, self.plans, self.script, kept, actor)?;
+        let decision = decision_at_turn(self.alloc, &FamilyPlans, self.script, kept, actor)?;
         tracker.turn_of_actor(self.script, actor, decision);
         Ok(())
     }
@@ -148,7 +171,7 @@ impl<P: EditPlans> Bench<'_, P> {
             ≡ kept_after self.now.script.now (line.Begin actor op) tracker.old) }
     {
         let kept = tracker.kept();
-        let decision = decision_at_begin(self.alloc, self.plans, self.script, kept, actor, op)?;
+        let decision = decision_at_begin(self.alloc, &FamilyPlans, self.script, kept, actor, op)?;
         tracker.begin(self.script, actor, op, decision);
         Ok(())
     }
@@ -195,10 +218,10 @@ impl<P: EditPlans> Bench<'_, P> {
     }
 
     /// What stands behind a line that breaks no rule. The card has the command of an exchange already.
+    #[tactic(auto, using(crate::proofs::Still::shown_followed))]
     pub fn follow(&self, line: &Line, behind: &mut Behind) -> Result<(), Memory>
         requires rules { keeps_rules self.now.script.now ≡ true }
-        requires space { spec.HasSpace behind.old }
-        requires taken { spec.is_refused behind.old.slot.world line.now ≡ false }
+        requires tested { spec.MayFollow line.now behind.old }
         ensures { OnOk result (spec.Followed self.now.script.now line.now behind.old behind.new) }
     {
         let event = behind.tracker.kept().history.events + 1;

@@ -7,9 +7,9 @@ ghost use Rattle.rules.specs.Channels.{held_numbers, is_living_handle};
 ghost use Rattle.rules.specs.Rules as rules;
 ghost use Rattle.trace_check.specs.Channels as spec;
 
-use crate::card::card_inside;
 use card_model::{CardState, ChannelState, World};
 use epoch_cache::Past;
+use planner::card_inside;
 use rules::{Handle, Kept};
 
 fn lives(history: Past, handle: &Handle) -> bool

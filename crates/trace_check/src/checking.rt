@@ -6,7 +6,6 @@ ghost use Rattle.trace_check.specs.Verdict as spec;
 
 use crate::behind::{Behind, Bench};
 use apdu::Memory;
-use planner::EditPlans;
 use report::{Line, Lines, Report};
 use std::alloc::Global;
 use thiserror::Error;
@@ -59,9 +58,9 @@ fn line_of(lines: &Lines, at: usize) -> Result<Line, Memory>
 }
 
 /// Whether a report is legal: no rule is broken up to any of its lines, nor up to its end. Its lines are taken one by one, from the first
-/// on, and the time is linear in them. `plans` plans edits.
+/// on, and the time is linear in them.
 #[tactic(auto, using(crate::proofs::UpTo::upto_first, crate::proofs::UpTo::upto_ready, crate::proofs::UpTo::upto_more, crate::proofs::UpTo::upto_broken, crate::proofs::UpTo::upto_end))]
-pub fn check<P: EditPlans>(alloc: Global, plans: &P, report: &Report) -> Result<(), CheckError>
+pub fn check(alloc: Global, report: &Report) -> Result<(), CheckError>
     requires { keeps_rules report.now.script ≡ true }
     ensures { spec.Says (first_broken report.now) result }
 {
@@ -70,7 +69,6 @@ pub fn check<P: EditPlans>(alloc: Global, plans: &P, report: &Report) -> Result<
     }
     let bench = Bench {
         alloc,
-        plans,
         script: &report.script,
         mode: report.mode,
     };

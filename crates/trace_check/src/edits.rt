@@ -13,16 +13,12 @@ ghost use Rattle.families.specs.Plans.{edited as edited_book, same_book as same_
 ghost use Rattle.link.specs.Commands.{continued};
 ghost use Rattle.rules.specs.Due.{planning_answer};
 ghost use Rattle.rules.specs.Rules as rules;
-ghost use Rattle.script_reader.specs.Operations.{is_editable};
-ghost use Rattle.script_reader.specs.Rules.{keeps_rules};
 ghost use Rattle.trace_check.specs.Edits as spec;
 ghost use Rattle.trace_check.specs.Judging.{is_sent};
 
 use crate::books::{book_in, edit_of, make_edit, same_book};
-use crate::card::card_inside;
 use crate::plans::{first_update, has_updates, is_update, plan_now};
 use crate::same::same_bytes;
-use crate::sessions::{lives_in, may_access};
 use crate::verifications::turn_operation;
 use adn::{Book, Edit, Plan, PlanError, RowUpdate};
 use apdu::{Command, Memory, Path, Response};
@@ -31,7 +27,7 @@ use card_rows::{file_of, rule_of};
 use editor::{Attempt, family_paths};
 use fcp::Need;
 use link::{Chain, same_command};
-use planner::{EditPlans, begun_of, operation_now};
+use planner::{begun_of, card_inside, lacking_key, lives_in, operation_now};
 use report::{Answer, Line};
 use rules::{Begun, Kept, Work};
 use script::{Operation, Script};
@@ -87,20 +83,6 @@ fn edit_turn<'a>(
     }
 }
 
-/// The same. Its family is one that can be edited.
-fn editable_turn<'a>(
-    alloc: Global,
-    script: &Script,
-    kept: &'a Kept,
-) -> Result<Option<EditTurn<'a>>, Memory>
-    requires { keeps_rules script.now ≡ true }
-    ensures turn { IfOk result (λ turn. option_map spec.turn_of turn
-        ≡ rules.edit_turn script.now kept.now) }
-    ensures family { IfOk result (λ turn. IfSome turn (λ t. is_editable t.family ≡ true)) }
-{
-    edit_turn(alloc, script, kept)
-}
-
 // ---- the update that is next
 
 fn need_of(card: &CardState, ids: &[u16]) -> Need
@@ -133,7 +115,7 @@ fn allowed_on<'a>(
         ≡ rules.allowed_on kept.now (spec.turn_of turn.now) card.now update.now }
 {
     let need = family_need(card, turn.family, update.file);
-    if may_access(kept, turn.actor, need) {
+    if lacking_key(kept.history, turn.actor, &kept.sessions, need).is_none() {
         Some(update)
     } else {
         None
@@ -258,19 +240,17 @@ fn may_update(kept: &Kept, turn: &EditTurn) -> bool
         && !refuses(&kept.turn.work)
 }
 
-fn is_ordered<P: EditPlans>(
+fn is_ordered(
     alloc: Global,
-    plans: &P,
     world: &World,
     kept: &Kept,
     turn: &EditTurn,
     command: &Command,
 ) -> Result<bool, Memory>
-    requires { is_editable turn.now.family ≡ true }
     ensures { IfOk result (λ ordered. ordered
         ≡ rules.is_ordered world.now kept.now (spec.turn_of turn.now) command.now) }
 {
-    let planned = plan_now(alloc, plans, world, turn.family, &turn.edit)?;
+    let planned = plan_now(alloc, world, turn.family, &turn.edit)?;
     let attempt = turn.begun.editing.attempt.as_ref();
     let right = is_planned_right(world, turn, &planned, attempt);
     let next = is_update_at(command, ordered_update(world, kept, turn, &planned));
@@ -289,22 +269,20 @@ fn continues(command: &Command, chain: &Option<Chain>) -> bool
 }
 
 /// A further exchange of a command is tested by its book alone.
-fn is_sent_right<P: EditPlans>(
+fn is_sent_right(
     alloc: Global,
-    plans: &P,
     world: &World,
     kept: &Kept,
     turn: &EditTurn,
     command: &Command,
 ) -> Result<bool, Memory>
-    requires { is_editable turn.now.family ≡ true }
     ensures { IfOk result (λ right. right ≡ rules.is_sent_right world.now kept.now
         (spec.turn_of turn.now) command.now (continued command.now kept.now.chain)) }
 {
     if continues(command, &kept.chain) {
         Ok(true)
     } else {
-        is_ordered(alloc, plans, world, kept, turn, command)
+        is_ordered(alloc, world, kept, turn, command)
     }
 }
 
@@ -347,19 +325,17 @@ fn is_deciding(kept: &Kept, turn: &EditTurn) -> bool
     }
 }
 
-fn update_of_edit<P: EditPlans>(
+fn update_of_edit(
     alloc: Global,
-    plans: &P,
     world: &World,
     kept: &Kept,
     turn: EditTurn,
     command: &Command,
 ) -> Result<Update, Memory>
-    requires { is_editable turn.family ≡ true }
     ensures { IfOk result (λ update. update
         ≡ spec.update_of_edit world.now kept.now command.now (spec.turn_of turn.entry)) }
 {
-    let ordered = is_sent_right(alloc, plans, world, kept, &turn, command)?;
+    let ordered = is_sent_right(alloc, world, kept, &turn, command)?;
     let book = book_in(alloc, world, turn.family)?;
     Ok(Update::OfEdit {
         ordered,
@@ -370,7 +346,8 @@ fn update_of_edit<P: EditPlans>(
     })
 }
 
-fn is_update_ins(ins: u8) -> bool
+/// Whether the instruction is UPDATE BINARY or UPDATE RECORD.
+pub fn is_update_ins(ins: u8) -> bool
     ensures { result ≡ is_update ins }
 {
     matches!(ins, 0xD6 | 0xDC)
@@ -384,24 +361,22 @@ fn is_outside_raw(script: &Script, kept: &Kept, command: &Command) -> bool
 }
 
 /// What the command is held against, if it is an UPDATE outside raw operations.
-pub fn update_before<P: EditPlans>(
+pub fn update_before(
     alloc: Global,
-    plans: &P,
     script: &Script,
     world: &World,
     kept: &Kept,
     command: &Command,
 ) -> Result<Update, Memory>
-    requires { keeps_rules script.now ≡ true }
     ensures { IfOk result (λ update. update
         ≡ spec.update_before script.now world.now kept.now command.now) }
 {
     if !is_outside_raw(script, kept, command) {
         return Ok(Update::Free);
     }
-    match editable_turn(alloc, script, kept)? {
+    match edit_turn(alloc, script, kept)? {
         None => Ok(Update::Stray),
-        Some(turn) => update_of_edit(alloc, plans, world, kept, turn, command),
+        Some(turn) => update_of_edit(alloc, world, kept, turn, command),
     }
 }
 
@@ -515,8 +490,7 @@ pub fn has_right_done(
     kept: &Kept,
     line: &Line,
 ) -> Result<bool, Memory>
-    requires rules { keeps_rules script.now ≡ true }
-    requires other { is_sent line.now ≡ false }
+    requires { is_sent line.now ≡ false }
     ensures { (world : WorldValue) → IfOk result (λ right. right
         ≡ rules.has_right_edit script.now world kept.now line.now) }
 {
@@ -526,7 +500,7 @@ pub fn has_right_done(
     let Answer::Done { event, left, .. } = answer else {
         return Ok(true);
     };
-    match editable_turn(alloc, script, kept)? {
+    match edit_turn(alloc, script, kept)? {
         None => Ok(false),
         Some(turn) => { is_done_right(alloc, kept, &turn, *actor, *op, *event, left.as_slice()) }
     }

@@ -7,7 +7,6 @@ ghost use Rattle.trace_check.specs.Judging as spec;
 
 use crate::answers::{are_answers_given, has_right_answer};
 use crate::behind::{Behind, Bench};
-use crate::card::card_inside;
 use crate::channels::are_channels_right;
 use crate::edits::{has_right_done, is_lost_update_right, is_update_right, update_before};
 use crate::exchanging::{is_answered_with, lose};
@@ -18,7 +17,7 @@ use crate::snapshots::has_right_snapshot;
 use crate::turns::{has_right_place, is_turn_right};
 use crate::verifications::has_right_verify;
 use apdu::{Command, Memory, Response};
-use planner::{EditPlans, is_finished};
+use planner::{card_inside, is_finished};
 use report::Line;
 
 /// The number of the rule of responses.
@@ -52,7 +51,7 @@ impl Sent {
     }
 }
 
-impl<P: EditPlans> Bench<'_, P> {
+impl Bench<'_> {
     /// The lowest rule that is broken at a mark.
     #[tactic(auto, using(crate::proofs::Scripts::few_actors))]
     fn test_mark(&self, behind: &Behind, line: &Line) -> Result<Option<u8>, Memory>
@@ -165,7 +164,7 @@ impl<P: EditPlans> Bench<'_, P> {
         ensures tested { result ≡ Ok None → spec.Tested line.now behind.old behind.new }
     {
         let (world, kept) = (behind.slot.state(), behind.tracker.kept());
-        let update = update_before(self.alloc, self.plans, self.script, world, kept, command)?;
+        let update = update_before(self.alloc, self.script, world, kept, command)?;
         let sent = self.test_sent(behind, line);
         if !is_answered_with(&mut behind.slot, command, response) {
             return Ok(Some(RESPONSES));
@@ -195,7 +194,7 @@ impl<P: EditPlans> Bench<'_, P> {
         if card_inside(world).is_none() {
             return Ok(Some(RESPONSES));
         }
-        let update = update_before(self.alloc, self.plans, self.script, world, kept, command)?;
+        let update = update_before(self.alloc, self.script, world, kept, command)?;
         let sent = self.test_sent(behind, line);
         lose(&mut behind.slot, command, acted);
         let edits = is_lost_update_right(self.alloc, update, behind.slot.state())?;
@@ -227,7 +226,7 @@ impl<P: EditPlans> Bench<'_, P> {
     }
 
     /// The lowest rule that is broken at a line; where none is, what stands behind it.
-    #[tactic(auto, using(crate::proofs::Following::never_refused, crate::proofs::Sent::space_tested, crate::proofs::Sent::taken_tested, crate::proofs::Sent::tested_follows))]
+    #[tactic(auto, using(crate::proofs::Sent::tested_follow, crate::proofs::Sent::tested_follows))]
     pub fn judge(&self, behind: &mut Behind, line: &Line) -> Result<Option<u8>, Memory>
         requires rules { keeps_rules self.now.script.now ≡ true }
         requires ready { spec.IsReady behind.old }

@@ -18,7 +18,6 @@ mod lowest;
 mod plans;
 mod rest;
 mod same;
-mod sessions;
 mod snapshots;
 mod turns;
 mod verifications;

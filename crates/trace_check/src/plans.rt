@@ -1,23 +1,22 @@
 // The plan of an edit for the card in the slot, and its updates.
-ghost use Rattle.std.specs.Prelude.{◌≡◌, ◌∷◌, ◌&&◌, [], true, Err, slice_get, IfOk};
+ghost use Rattle.std.specs.Prelude.{◌≡◌, ◌∷◌, ◌&&◌, [], Err, slice_get, IfOk};
 ghost use Rattle.std.specs.Option.{option_copied};
 ghost use Rattle.apdu.specs.Apdu.{same_command as same_commands};
 ghost use Rattle.editor.specs.Editing.{update_command};
 ghost use Rattle.families.specs.Families as families;
 ghost use Rattle.families.specs.Plans.{plan_updates, some_first};
-ghost use Rattle.fcp.specs.Content.{missing as no_file};
 ghost use Rattle.rules.specs.Rules as rules;
 ghost use Rattle.rules.specs.State.{view_in};
-ghost use Rattle.script_reader.specs.Operations.{is_editable};
 ghost use Rattle.trace_check.specs.Plans as spec;
 
 use crate::card::file_in;
 use crate::same::same_bytes;
 use adn::{Edit, Plan, PlanError, RowUpdate};
-use apdu::{Command, Memory, Path, Sequence};
+use apdu::{Command, Memory};
+use book_plans::plan_edit;
 use card_model::World;
-use editor::family_paths;
-use epoch_cache::{CachedFile, CachedFiles};
+use epoch_cache::CachedFiles;
+use family_files::plan_of_family;
 use fcp::Rows;
 use planner::EditPlans;
 use std::alloc::Global;
@@ -26,56 +25,35 @@ const UPDATE_RECORD: u8 = 0xDC;
 
 const ABSOLUTE: u8 = 0x04;
 
-// ---- the plan
+/// Plans of edits, for the files that are current.
+#[derive(Drop)]
+pub struct FamilyPlans;
 
-fn file_now(
-    world: &World,
-    family: u8,
-    at: usize,
-    path: &Path,
-    missing: &Rows,
-) -> Result<CachedFile, Memory>
-    requires { missing.now ≡ no_file }
-    ensures { IfOk result (λ file. file ≡ spec.file_now world.now family at path.now) }
-{
-    Ok(CachedFile {
-        path: path.copy(),
-        content: file_in(world, family, at, missing).copy()?,
-        arr: None,
-    })
-}
-
-/// The two files of a book, as the card in the slot has them.
-#[tactic(auto, using(crate::proofs::Planning::two_paths))]
-fn files_now(alloc: Global, world: &World, family: u8) -> Result<CachedFiles, Memory>
-    requires { is_editable family ≡ true }
-    ensures { IfOk result (λ files. files ≡ spec.files_now world.now family) }
-{
-    let missing = Rows::missing(alloc);
-    let paths = family_paths(family);
-    let mut files = Sequence::new(alloc);
-    if let [main, ext] = paths.as_slice() {
-        files.push(file_now(world, family, 0, main, &missing)?)?;
-        files.push(file_now(world, family, 1, ext, &missing)?)?;
+impl EditPlans for FamilyPlans {
+    fn plan(
+        &self,
+        alloc: Global,
+        family: u8,
+        edit: &Edit,
+        files: &CachedFiles,
+    ) -> Result<Result<Plan, PlanError>, Memory> {
+        plan_of_family(alloc, family, edit, files)
     }
-    Ok(files)
 }
 
 /// The plan of an edit for the card in the slot, or why there is none.
-#[tactic(auto, using(crate::proofs::Planning::plan_now))]
-pub fn plan_now<P: EditPlans>(
+pub fn plan_now(
     alloc: Global,
-    plans: &P,
     world: &World,
     family: u8,
     edit: &Edit,
 ) -> Result<Result<Plan, PlanError>, Memory>
-    requires { is_editable family ≡ true }
     ensures { IfOk result (λ planned. planned
         ≡ families.family_plan family edit.now (view_in world.now)) }
 {
-    let files = files_now(alloc, world, family)?;
-    plans.plan(alloc, family, edit, &files)
+    let missing = Rows::missing(alloc);
+    let main = file_in(world, family, 0, &missing);
+    plan_edit(alloc, edit, main, file_in(world, family, 1, &missing))
 }
 
 // ---- its updates

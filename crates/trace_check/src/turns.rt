@@ -2,7 +2,6 @@
 ghost use Rattle.std.specs.Prelude.{◌≡◌, ◌≤◌, length, true};
 ghost use Rattle.planner.specs.Room.{turn_fits};
 ghost use Rattle.apdu.specs.Words.{has_value};
-ghost use Rattle.rules.specs.Kept.{job_of};
 ghost use Rattle.rules.specs.Rules as rules;
 ghost use Rattle.trace_check.specs.Judging.{seen_state};
 
@@ -12,7 +11,7 @@ use crate::same::{is_command, is_number, same_event};
 use apdu::Command;
 use card_model::{World, WorldEvent};
 use planner::{
-    begun_of, due_command, due_event, due_publication, has_operations_left, is_finished,
+    answered_of, begun_of, due_command, due_event, due_publication, has_operations_left, is_finished,
     is_reset_due, waits_on,
 };
 use report::{Answer, Line, Mode};
@@ -88,15 +87,6 @@ fn is_mark_right(script: &Script, mode: Mode, world: &World, kept: &Kept, actor:
         && is_turn_right(mode, world, kept)
 }
 
-fn answered_of(actor: u8, kept: &Kept) -> u32
-    ensures { result ≡ (job_of actor kept.now.jobs).answered }
-{
-    match kept.jobs.get(actor as usize) {
-        None => 0,
-        Some(job) => job.answered,
-    }
-}
-
 /// Operations begin in order, one at a time, directly behind the mark, and where they do not wait.
 fn is_begin_right(script: &Script, kept: &Kept, actor: u8, op: u32) -> bool
     requires { length script.now.actors ≤ 254 }
@@ -106,7 +96,7 @@ fn is_begin_right(script: &Script, kept: &Kept, actor: u8, op: u32) -> bool
         && is_turn_of(actor, &kept.turn)
         && 0 < actor
         && begun_of(actor, &kept.jobs).is_none()
-        && op == answered_of(actor, kept)
+        && op == answered_of(actor, &kept.jobs)
         && has_operations_left(script, kept, actor)
         && waits_on(script, kept, actor).is_none()
 }

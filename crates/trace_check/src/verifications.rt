@@ -2,33 +2,15 @@
 ghost use Rattle.std.specs.Prelude.{◌≡◌};
 ghost use Rattle.std.specs.Option.{option_copied};
 ghost use Rattle.rules.specs.Rules as rules;
-ghost use Rattle.rules.specs.Sessions.{verify_command as verify_of};
 
 use apdu::Command;
-use arrayvec::ArrayVec;
 use link::same_command;
-use planner::{begun_of, operation_now};
+use planner::{begun_of, operation_now, verify_command};
 use report::Line;
 use rules::{Begun, Kept};
 use script::{Operation, Script};
 
 const VERIFY: u8 = 0x20;
-
-/// VERIFY PIN, ETSI TS 102 221 clause 11.1.9.
-fn verify_command(key: u8, pin: &[u8; 8]) -> Command
-    ensures { result ≡ verify_of key pin.now }
-{
-    let mut body = ArrayVec::new();
-    let _ = body.try_extend_from_slice(pin);
-    Command {
-        class: 0,
-        ins: VERIFY,
-        p1: 0,
-        p2: key,
-        body,
-        le: None,
-    }
-}
 
 /// The operation of the turn that has begun and is not answered.
 pub fn turn_operation<'a>(script: &'a Script, kept: &Kept) -> Option<&'a Operation>

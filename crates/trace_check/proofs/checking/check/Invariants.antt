@@ -2,4 +2,4 @@ use Rattle.trace_check.proofs.UpTo.{UpTo}
 use Rattle.trace_check.proofs.checking.check.Given as goal
 
 abbrev pub invariant-loop-at : goal.invariant-loop-at
-invariant-loop-at g l = UpTo l.report l.at l.behind
+invariant-loop-at l = UpTo l.report l.at l.behind
