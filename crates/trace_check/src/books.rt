@@ -160,17 +160,16 @@ pub fn same_book(a: &[BookRow], b: &[BookRow]) -> bool
     let mut rest_a = a;
     let mut rest_b = b;
     'rows: loop {
-        match (rest_a, rest_b) {
-            ([], []) => return true,
-            ([x, more_a @ ..], [y, more_b @ ..]) => {
-                if !same_row(x, y) {
-                    return false;
-                }
-                rest_a = more_a;
-                rest_b = more_b;
-            }
-            ([], [_, ..]) => return false,
-            ([_, ..], []) => return false,
+        let [x, more_a @ ..] = rest_a else {
+            return rest_b.is_empty();
+        };
+        let [y, more_b @ ..] = rest_b else {
+            return false;
+        };
+        if !same_row(x, y) {
+            return false;
         }
+        rest_a = more_a;
+        rest_b = more_b;
     }
 }
