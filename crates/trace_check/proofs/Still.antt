@@ -1,13 +1,13 @@
 -- Behind an exchange of a command that writes no file the card in the slot shows what it showed before.
-use Rattle.std.proofs.Common.{◌≡◌, ◌==◌, ◌||◌, ℕ, Bool, true, false, if◌then◌else◌, Option, Some, None, List, refl, ap, sym, subst, ◌∙◌, true≢false}
-use Rattle.std.specs.Prelude.{not, option_and_then, slice_get}
+use Rattle.std.proofs.Common.{◌≡◌, ◌==◌, ◌||◌, ℕ, zero, suc, Bool, true, false, if◌then◌else◌, Option, Some, None, List, [], ◌∷◌, refl, ap, sym, subst, ◌∙◌, true≢false}
+use Rattle.std.specs.Prelude.{not, slice_get, slice_set}
 use Rattle.apdu.specs.Values.{CommandValue, ResponseValue}
 use Rattle.apdu.specs.Apdu.{is_update_ins, fetch_ins}
 use Rattle.card_model.specs.declared.world.Change.{Change}
 use Rattle.card_model.specs.declared.world.FileState.{FileState}
 use Rattle.card_model.specs.declared.world.CardState.{CardState}
 use Rattle.card_model.specs.declared.world.World.{World}
-use Rattle.card_model.specs.Step.{on_card, card_inside, step, step_of_card, step_of_place}
+use Rattle.card_model.specs.Step.{on_card, card_inside, with_card, step, step_of_card, step_of_place}
 use Rattle.card_effects.specs.Effect.{Effect, quiet, refuses_select, reads_record, reads_binary, gets, selects, updates_record, updates_binary, opens, closes, hands_over}
 use Rattle.card_effects.proofs.Effects.{effect}
 use Rattle.card_effects.proofs.Basic.{effect_aids}
@@ -16,7 +16,6 @@ use Rattle.report.specs.declared.line.Line.{Line}
 use Rattle.report.specs.declared.line.Line.TheVariants as line
 use Rattle.families.specs.Families.{shown, records, phonebook, fixed}
 use Rattle.rules.specs.State.{world_after, content_on, shown_in, shown_on, same_shown}
-use Rattle.rules.proofs.Worlds.{steps_card}
 use Rattle.trace_check.specs.declared.displays.Display.{Display}
 use Rattle.trace_check.specs.declared.displays.Displays.{Displays}
 use Rattle.trace_check.specs.Displays.{writes_nothing, AreShown, refreshed, all_refreshed}
@@ -52,29 +51,33 @@ text_same old new f files aids = ap (λ (x : List FileState). text_with new x ne
 
 -- ---- the world
 
-empty_at : (w : World) (j : ℕ) (o : Option CardState) (c : CommandValue) → o ≡ None → (step_of_card w j o c).0 ≡ w
-empty_at w j None c h = refl
-empty_at w j (Some card) c h = absurd (cc)
+get_set : (cards : List CardState) (j : ℕ) (x y : CardState) → slice_get cards j ≡ Some x → slice_get (slice_set cards j y) j ≡ Some y
+get_set [] j x y h = absurd (cc)
+get_set (card ∷ cards) zero x y h = refl
+get_set (card ∷ cards) (suc j) x y h = get_set cards j x y h
 
-empty_in : (w : World) (o : Option ℕ) (c : CommandValue) → option_and_then (λ j. slice_get w.cards j) o ≡ None → (step_of_place w o c).0 ≡ w
-empty_in w None c h = refl
-empty_in w (Some j) c h = empty_at w j (slice_get w.cards j) c h
-
-step_of_nothing : (w : World) (c : CommandValue) → card_inside w ≡ None → (step w c).0 ≡ w
-unfolding step
-step_of_nothing w c h = empty_in w w.inside c h
-
-step_by : (w : World) (c : CommandValue) (f : ℕ) (o : Option CardState) → keeps_files c.ins ≡ true → card_inside w ≡ o → shown_in (step w c).0 f ≡ shown_in w f
-step_by w c f None h e = ap (λ (v : World). shown_in v f) (step_of_nothing w c e)
-step_by w c f (Some card) h e =
+step_at : (w : World) (j : ℕ) (c : CommandValue) (f : ℕ) (o : Option CardState) → keeps_files c.ins ≡ true → slice_get w.cards j ≡ o → w.inside ≡ Some j → shown_in (step_of_card w j o c).0 f ≡ shown_in w f
+step_at w j c f None h e i = refl
+step_at w j c f (Some card) h e i =
+    let new : CardState = (on_card w.changes card c).0 in
     let done : Effect w.changes card c (on_card w.changes card c) = effect w.changes card c in
-    ap (λ (x : Option CardState). shown_on x f) (steps_card w card c e).inside
-    ∙ ap (λ (text : List ℕ). Some text) (text_same card (on_card w.changes card c).0 f (files_stay w.changes card c (on_card w.changes card c) h done) (effect_aids w.changes card c (on_card w.changes card c) done))
-    ∙ sym (ap (λ (x : Option CardState). shown_on x f) e)
+    let before : card_inside w ≡ Some card = rw i e in
+    let behind : card_inside (with_card w j new) ≡ Some new = rw i (get_set w.cards j card new e) in
+    ap (λ (x : Option CardState). shown_on x f) behind
+    ∙ ap (λ (text : List ℕ). Some text) (text_same card new f (files_stay w.changes card c (on_card w.changes card c) h done) (effect_aids w.changes card c (on_card w.changes card c) done))
+    ∙ sym (ap (λ (x : Option CardState). shown_on x f) before)
+
+step_in : (w : World) (c : CommandValue) (f : ℕ) (o : Option ℕ) → keeps_files c.ins ≡ true → w.inside ≡ o → shown_in (step_of_place w o c).0 f ≡ shown_in w f
+step_in w c f None h i = refl
+step_in w c f (Some j) h i = step_at w j c f (slice_get w.cards j) h refl i
+
+shown_step : (w : World) (c : CommandValue) (f : ℕ) → keeps_files c.ins ≡ true → shown_in (step w c).0 f ≡ shown_in w f
+unfolding step
+shown_step w c f h = step_in w c f w.inside h refl
 
 shown_still : (l : Line) (w : World) (f : ℕ) → writes_nothing l ≡ true → shown_in (world_after l w) f ≡ shown_in w f
-shown_still (line.Exchange a c r) w f h = step_by w c f (card_inside w) h refl
-shown_still (line.Failed a c true) w f h = step_by w c f (card_inside w) h refl
+shown_still (line.Exchange a c r) w f h = shown_step w c f h
+shown_still (line.Failed a c true) w f h = shown_step w c f h
 shown_still (line.Failed a c false) w f h = refl
 shown_still (line.Turn a) w f h = absurd (cc)
 shown_still (line.Begin a i) w f h = absurd (cc)
