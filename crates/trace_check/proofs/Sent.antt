@@ -1,6 +1,6 @@
 -- The tests of an exchange, done or failed, and what stands behind a line that was tested.
 use Rattle.std.proofs.Common.{◌≡◌, ◌&&◌, ◌||◌, ◌+◌, ℕ, Bool, true, false, Option, Some, None, List, [], ◌∷◌, length, refl, ap, sym, subst, ◌∙◌}
-use Rattle.std.specs.Prelude.{is_some, is_none}
+use Rattle.std.specs.Prelude.{is_some, Result, Ok, Err, IfOk}
 use Rattle.apdu.specs.Values.{CommandValue, ResponseValue}
 use Rattle.card_model.specs.declared.world.World.{World}
 use Rattle.card_model.specs.Step.{step, card_inside}
@@ -10,16 +10,18 @@ use Rattle.report.specs.declared.line.Line.{Line}
 use Rattle.report.specs.declared.line.Line.TheVariants as line
 use Rattle.rules.specs.declared.kept.Kept.{Kept}
 use Rattle.planner.specs.Room.{handles_fit}
-use Rattle.rules.specs.After.{kept_after}
+use Rattle.rules.specs.After.{is_mark, kept_after}
 use Rattle.rules.specs.State.{State, world_after}
 use Rattle.rules.specs.Rules.{EditTurn, edit_turn, is_outside_raw, is_sent_right, is_book_right, is_lost_book_right, is_response_right, has_right_edit, world_failed}
 use Rattle.rules.specs.Legal.{lowest_broken, other_tests, first_false}
 use Rattle.link.specs.Commands.{continued}
 use Rattle.tracker.specs.Room.{HasRoom}
 use Rattle.trace_check.specs.declared.behind.Behind.{Behind}
+use Rattle.trace_check.specs.declared.edits.Update.{Update}
 use Rattle.trace_check.specs.declared.edits.Update.TheVariants.{Free}
+use Rattle.trace_check.specs.declared.judge.Sent.{Sent}
 use Rattle.trace_check.specs.Edits.{update_by, update_before, is_right_behind, is_right_lost}
-use Rattle.trace_check.specs.Judging.{is_sent, sent_tests, lowest_sent, is_refused, boards_behind, displays_behind, world_tested, world_followed, tests_now, Tested, MayFollow, Followed, Follows, HasSpace}
+use Rattle.trace_check.specs.Judging.{is_sent, sent_tests, lowest_sent, is_refused, boards_behind, displays_behind, world_tested, world_followed, state_now, mark_tests_now, tests_now, Tested, MayFollow, Followed, Follows, IsReady, HasSpace}
 use Rattle.trace_check.specs.Displays.{AreShown}
 use Rattle.trace_check.specs.declared.displays.Displays.{Displays}
 use Rattle.trace_check.proofs.Following.{never_refused}
@@ -60,7 +62,7 @@ exchange_broken s m st l a c r e h =
     ap (λ (x : Line). lowest_broken (other_tests s m st x)) e
     ∙ broken_first (is_response_right st.world c r) (t.snapshots ∷ t.edits ∷ t.channels ∷ t.rest ∷ t.answers ∷ t.verifications ∷ t.turns ∷ t.ending ∷ t.faults ∷ []) h
 
-pub exchange_lowest : (s : Script) (m : Mode) (st : State) (l : Line) (a : ℕ) (c : CommandValue) (r : ResponseValue) → l ≡ line.Exchange a c r → is_response_right st.world c r ≡ true → lowest_sent (is_right_behind (step st.world c).0 r (update_before s st.world st.kept c)) (sent_tests s m st l) ≡ lowest_broken (other_tests s m st l)
+exchange_lowest : (s : Script) (m : Mode) (st : State) (l : Line) (a : ℕ) (c : CommandValue) (r : ResponseValue) → l ≡ line.Exchange a c r → is_response_right st.world c r ≡ true → lowest_sent (is_right_behind (step st.world c).0 r (update_before s st.world st.kept c)) (sent_tests s m st l) ≡ lowest_broken (other_tests s m st l)
 exchange_lowest s m st l a c r e h =
     let t = other_tests s m st (line.Exchange a c r) in
     ap (λ (x : Line). lowest_sent (is_right_behind (step st.world c).0 r (update_before s st.world st.kept c)) (sent_tests s m st x)) e
@@ -68,19 +70,62 @@ exchange_lowest s m st l a c r e h =
     ∙ passed_first (is_response_right st.world c r) (t.snapshots ∷ t.edits ∷ t.channels ∷ t.rest ∷ t.answers ∷ t.verifications ∷ t.turns ∷ t.ending ∷ t.faults ∷ []) h
     ∙ ap (λ (x : Line). lowest_broken (other_tests s m st x)) (sym e)
 
+-- the update before the card has the command, where the world and what is kept are these
+abbrev update_in : Script → CommandValue → World → Kept → Update
+update_in s c w k = update_before s w k c
+
+before_is : (s : Script) (c : CommandValue) (st : State) (w : World) (k : Kept) (update : Update) → w ≡ st.world → k ≡ st.kept → update ≡ update_before s w k c → update ≡ update_before s st.world st.kept c
+before_is s c st w k update e h u = u ∙ ap (λ (x : World). update_in s c x k) e ∙ ap (λ (x : Kept). update_in s c st.world x) h
+
+-- the tests of an exchange, by what stands behind the test of its response
+pub exchange_said : (s : Script) (m : Mode) (st : State) (l : Line) (a : ℕ) (c : CommandValue) (r : ResponseValue) (w : World) (k : Kept) (behind : World) (update : Update) (sent : Sent) (edits : Bool) (said : Option ℕ) → l ≡ line.Exchange a c r → w ≡ st.world → k ≡ st.kept → is_response_right st.world c r ≡ true → behind ≡ (step st.world c).0 → update ≡ update_before s w k c → sent ≡ sent_tests s m st l → edits ≡ is_right_behind behind r update → said ≡ lowest_sent edits sent → said ≡ lowest_broken (other_tests s m st l)
+exchange_said s m st l a c r w k behind update sent edits said e world kept h v u t b q =
+    q
+    ∙ ap (λ (x : Bool). lowest_sent x sent) b
+    ∙ ap (λ (x : World). lowest_sent (is_right_behind x r update) sent) v
+    ∙ ap (λ (x : Update). lowest_sent (is_right_behind (step st.world c).0 r x) sent) (before_is s c st w k update world kept u)
+    ∙ ap (λ (x : Sent). lowest_sent (is_right_behind (step st.world c).0 r (update_before s st.world st.kept c)) x) t
+    ∙ exchange_lowest s m st l a c r e h
+
 pub failed_broken : (s : Script) (m : Mode) (st : State) (l : Line) (a : ℕ) (c : CommandValue) (d : Bool) → l ≡ line.Failed a c d → is_some (card_inside st.world) ≡ false → lowest_broken (other_tests s m st l) ≡ Some 1
 failed_broken s m st l a c d e h =
     let t = other_tests s m st (line.Failed a c d) in
     ap (λ (x : Line). lowest_broken (other_tests s m st x)) e
     ∙ broken_first (is_some (card_inside st.world)) (t.snapshots ∷ t.edits ∷ t.channels ∷ t.rest ∷ t.answers ∷ t.verifications ∷ t.turns ∷ t.ending ∷ t.faults ∷ []) h
 
-pub failed_lowest : (s : Script) (m : Mode) (st : State) (l : Line) (a : ℕ) (c : CommandValue) (d : Bool) → l ≡ line.Failed a c d → is_some (card_inside st.world) ≡ true → lowest_sent (is_right_lost (world_failed st.world c d) (update_before s st.world st.kept c)) (sent_tests s m st l) ≡ lowest_broken (other_tests s m st l)
+failed_lowest : (s : Script) (m : Mode) (st : State) (l : Line) (a : ℕ) (c : CommandValue) (d : Bool) → l ≡ line.Failed a c d → is_some (card_inside st.world) ≡ true → lowest_sent (is_right_lost (world_failed st.world c d) (update_before s st.world st.kept c)) (sent_tests s m st l) ≡ lowest_broken (other_tests s m st l)
 failed_lowest s m st l a c d e h =
     let t = other_tests s m st (line.Failed a c d) in
     ap (λ (x : Line). lowest_sent (is_right_lost (world_failed st.world c d) (update_before s st.world st.kept c)) (sent_tests s m st x)) e
     ∙ ap (λ (b : Bool). lowest_sent b (sent_tests s m st (line.Failed a c d))) (lost_test s st.world st.kept a c d)
     ∙ passed_first (is_some (card_inside st.world)) (t.snapshots ∷ t.edits ∷ t.channels ∷ t.rest ∷ t.answers ∷ t.verifications ∷ t.turns ∷ t.ending ∷ t.faults ∷ []) h
     ∙ ap (λ (x : Line). lowest_broken (other_tests s m st x)) (sym e)
+
+-- the same where the answer was lost
+pub failed_said : (s : Script) (m : Mode) (st : State) (l : Line) (a : ℕ) (c : CommandValue) (d : Bool) (w : World) (k : Kept) (behind : World) (update : Update) (sent : Sent) (edits : Bool) (said : Option ℕ) → l ≡ line.Failed a c d → w ≡ st.world → k ≡ st.kept → is_some (card_inside st.world) ≡ true → behind ≡ world_failed st.world c d → update ≡ update_before s w k c → sent ≡ sent_tests s m st l → edits ≡ is_right_lost behind update → said ≡ lowest_sent edits sent → said ≡ lowest_broken (other_tests s m st l)
+failed_said s m st l a c d w k behind update sent edits said e world kept h v u t b q =
+    q
+    ∙ ap (λ (x : Bool). lowest_sent x sent) b
+    ∙ ap (λ (x : World). lowest_sent (is_right_lost x update) sent) v
+    ∙ ap (λ (x : Update). lowest_sent (is_right_lost (world_failed st.world c d) x) sent) (before_is s c st w k update world kept u)
+    ∙ ap (λ (x : Sent). lowest_sent (is_right_lost (world_failed st.world c d) (update_before s st.world st.kept c)) x) t
+    ∙ failed_lowest s m st l a c d e h
+
+-- ---- marks, and lines that are neither marks nor exchanges
+
+pub mark_said : {E : Type 0} (s : Script) (m : Mode) (l : Line) (b : Behind) (r : Result (Option ℕ) E) → is_mark l ≡ true → IfOk r (λ broken. broken ≡ lowest_broken (mark_tests_now s m l b)) → IfOk r (λ broken. broken ≡ lowest_broken (tests_now s m l b))
+mark_said s m l b r h said = subst (λ (x : Bool). IfOk r (λ broken. broken ≡ lowest_broken (elim x [ true ↦ mark_tests_now s m l b | false ↦ other_tests s m (state_now b) l ]))) (sym h) said
+
+pub other_said : {E : Type 0} (s : Script) (m : Mode) (l : Line) (b : Behind) (r : Result (Option ℕ) E) → is_mark l ≡ false → IfOk r (λ broken. broken ≡ lowest_broken (other_tests s m (state_now b) l)) → IfOk r (λ broken. broken ≡ lowest_broken (tests_now s m l b))
+other_said s m l b r h said = subst (λ (x : Bool). IfOk r (λ broken. broken ≡ lowest_broken (elim x [ true ↦ mark_tests_now s m l b | false ↦ other_tests s m (state_now b) l ]))) (sym h) said
+
+still_by : (x : Bool) (l : Line) (w : World) → x ≡ false → w ≡ elim x [ true ↦ world_after l w | false ↦ w ]
+still_by true l w h = absurd (cc)
+still_by false l w h = refl
+
+-- the test of a line that is no exchange changes nothing
+pub tested_still : (l : Line) (b : Behind) → is_sent l ≡ false → IsReady b → Tested l b b
+tested_still l b h ready = record { world = still_by (is_sent l) l b.slot.world h; faults = ready.faults; kept = refl; boards = refl; displays = refl }
 
 -- ---- behind a line that was tested
 

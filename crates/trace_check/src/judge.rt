@@ -147,7 +147,7 @@ impl Bench<'_> {
     }
 
     /// The lowest rule that is broken at an exchange. The card has the command behind it.
-    #[tactic(auto, using(crate::proofs::Sent::exchange_broken, crate::proofs::Sent::exchange_lowest))]
+    #[tactic(auto, using(crate::proofs::Sent::exchange_broken))]
     fn test_exchange(
         &self,
         behind: &mut Behind,
@@ -174,7 +174,7 @@ impl Bench<'_> {
     }
 
     /// The lowest rule that is broken at a failed exchange. The card has the command behind it where it acted.
-    #[tactic(auto, using(crate::proofs::Sent::failed_broken, crate::proofs::Sent::failed_lowest))]
+    #[tactic(auto, using(crate::proofs::Sent::failed_broken))]
     fn test_failed(
         &self,
         behind: &mut Behind,
