@@ -1,8 +1,6 @@
 -- The lines of a hub that is whole are due so far.
 use Rattle.std.proofs.Common.{◌≡◌, Bool, true, subst}
 use Rattle.std.proofs.lemmas.Option.{IfSome_then}
-use Rattle.card_model.specs.declared.world.World.{World}
-use Rattle.card_model.specs.Slot.{Plan}
 use Rattle.rules.specs.declared.kept.Kept.{Kept}
 use Rattle.rules.specs.Due.{due}
 use Rattle.rules.specs.Performed.{ends_turn}

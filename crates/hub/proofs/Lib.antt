@@ -1,6 +1,10 @@
 pub mod Scripts
 pub mod Ties
 pub mod Played
+pub mod Edits
+pub mod FewRows
+pub mod Begins
+pub mod Left
 pub mod Follows
 pub mod Inside
 pub mod Lively
@@ -12,4 +16,5 @@ pub mod DueSoFar
 pub mod Idle
 pub mod Calm
 pub mod Steps
+pub mod Loop
 pub mod Taken

@@ -1,21 +1,18 @@
 -- What callers have of a turn that was taken, and of a run that is finished.
-use Rattle.std.proofs.Common.{◌≡◌, ◌++◌, ℕ, not, Bool, true, false, List, [], ◌∷◌, Option, Some, None, IfSome, IsSome, refl, sym, ap, ◌∙◌, subst, true≢false}
+use Rattle.std.proofs.Common.{◌≡◌, ◌+◌, ◌++◌, length, ℕ, not, Bool, true, false, List, [], ◌∷◌, Option, Some, None, IfSome, IsSome, refl, sym, ap, ◌∙◌, subst, true≢false}
 use Rattle.std.proofs.lemmas.Bool.{and_parts}
 use Rattle.card_model.specs.declared.world.World.{World}
 use Rattle.card_model.specs.Slot.{Plan, StaysTold}
 use Rattle.script_reader.specs.declared.types.Script.{Script}
-use Rattle.script_reader.specs.declared.types.Operation.{Operation}
+use Rattle.script_reader.specs.Rules.{keeps_rules}
+use Rattle.script_reader.specs.World.{first_world}
 use Rattle.report.specs.declared.line.Line.{Line}
 use Rattle.report.specs.declared.line.Line.TheVariants as line
 use Rattle.report.specs.declared.line.Mode.{Mode}
-use Rattle.link.specs.declared.chain.Final.{Final}
-use Rattle.loader.specs.declared.reading.RefusedReading.{RefusedReading}
-use Rattle.rules.specs.declared.kept.Facts.{Facts}
-use Rattle.rules.specs.declared.kept.Job.{Job}
 use Rattle.rules.specs.declared.kept.Kept.{Kept}
-use Rattle.rules.specs.declared.kept.Turn.{Turn}
-use Rattle.rules.specs.After.{facts_of, is_mark, kept_after, kept_of, turn_exchanged}
+use Rattle.rules.specs.After.{is_mark, kept_of}
 use Rattle.rules.specs.Due.{due}
+use Rattle.rules.specs.Kept.{actor_count, nothing_kept}
 use Rattle.rules.specs.Legal.{legal}
 use Rattle.rules.specs.Performed.{ends_turn}
 use Rattle.rules.specs.Work.{is_finished, is_idle}
@@ -29,10 +26,12 @@ use Rattle.performed.proofs.ProgressMoves.{marks_move}
 use Rattle.performed.proofs.TurnsMove.{turns_move}
 use Rattle.hub.specs.Hub.{HubValue, IsAtRest, TakesTurn, kept_now}
 use Rattle.hub.specs.Parts.{Parts}
-use Rattle.hub.specs.Settled.{HasLine, HasTurned, IsSettled, IsWorldOf, KeepsAll}
+use Rattle.hub.specs.Settled.{AreServed, HasLine, HasTurned, IsPlanOf, IsSettled, IsWorldOf, KeepsAll}
+use Rattle.hub.specs.Short.{are_short}
+use Rattle.hub.proofs.Edits.{none_short}
 use Rattle.hub.proofs.Idle.{idle_settles}
 use Rattle.hub.proofs.Ties.{tied_kept}
-use Rattle.hub.proofs.Turning.{unmarked}
+use Rattle.hub.proofs.Turning.{line_filled, unmarked}
 
 -- what callers see of the parts
 abbrev pub seen : Parts → Bool → HubValue
@@ -56,23 +55,6 @@ pub rest_now : (h : HubValue) (p : Parts) (whole : Bool) → seen p whole ≡ h 
 rest_now h p whole e t = subst IsAtRest e (rest_of p whole t)
 
 -- ---- a turn is not without lines
-
-led_filled : (op : Option Operation) (job : Job) (held : List ℕ) (facts : Facts) (refused : Option RefusedReading) (t : Turn) (o : Option Final) → facts.answered ≡ o → (turn_exchanged op job held facts refused t).bare ≡ false
-led_filled op job held facts refused t None e = rw e refl
-led_filled op job held facts refused t (Some f) e = rw e refl
-
-line_filled : (s : Script) (l : Line) (k : Kept) → is_mark l ≡ false → (kept_after s l k).turn.bare ≡ false
-line_filled s (line.Turn a) k m = absurd (true≢false m)
-line_filled s (line.Begin a i) k m = refl
-line_filled s (line.Exchange a c r) k m = led_filled _ _ _ (facts_of s (line.Exchange a c r) k) _ k.turn (facts_of s (line.Exchange a c r) k).answered refl
-line_filled s (line.Failed a c d) k m = refl
-line_filled s (line.Reset a) k m = refl
-line_filled s (line.ResetFailed a) k m = refl
-line_filled s (line.World a e) k m = refl
-line_filled s (line.Published n f e v text) k m = refl
-line_filled s (line.EpochEnd n e v) k m = refl
-line_filled s (line.Refused f n) k m = refl
-line_filled s (line.Answered a i given) k m = refl
 
 filled : (s : Script) (earlier added : List Line) (a : ℕ) → serves s ≡ true → are_followed s (added ++ line.Turn a ∷ earlier) ≡ true → has_no_mark added ≡ true → is_idle s (kept_of s earlier) a ≡ false → ends_turn (due s (kept_of s (added ++ line.Turn a ∷ earlier))) ≡ true → (kept_of s (added ++ line.Turn a ∷ earlier)).turn.bare ≡ false
 filled s earlier [] a v f own awake e = absurd (true≢false (sym e ∙ marks_move s earlier a v f awake))
@@ -148,3 +130,29 @@ report_legal law h p m lines whole e settled same finished placed allowed told =
 
 pub whole_seen : (p : Parts) (whole : Bool) (h : HubValue) → whole ≡ true → seen p whole ≡ h → seen p true ≡ h
 whole_seen p whole h w e = ap (seen p) (sym w) ∙ e
+
+-- ---- before the first line
+
+first_world_of : (s : Script) (w : Option World) → IfSome w (λ x. x ≡ first_world s) → IfSome w (IsWorldOf s [])
+first_world_of s None h = tt
+first_world_of s (Some x) h = record { world = h; told = refl }
+
+first_plan_of : (s : Script) (q : Option Plan) → IfSome q (λ x. x ≡ record { faults = s.faults; calls = 0 }) → IfSome q (IsPlanOf s (kept_of s []))
+first_plan_of s None h = tt
+first_plan_of s (Some x) h = record { faults = ap (λ (y : Plan). y.faults) h; calls = ap (λ (y : Plan). y.calls) h }
+
+pub first_settled : (p : Parts) → p.lines.lines ≡ [] → p.kept ≡ nothing_kept p.script → keeps_rules p.script ≡ true → serves p.script ≡ true → IfSome p.world (λ x. x ≡ first_world p.script) → IfSome p.plan (λ x. x ≡ record { faults = p.script.faults; calls = 0 }) → IsSettled p
+first_settled p lines kept rules served world plan = record {
+  tied = record {
+    kept = kept ∙ ap (kept_of p.script) (sym lines);
+    lines = subst (λ (x : List Line). AreServed p.script x p.world p.plan) (sym lines) (record {
+      rules = rules;
+      served = served;
+      followed = refl;
+      world = first_world_of p.script p.world world;
+      plan = first_plan_of p.script p.plan plan;
+    });
+    short = ap (λ (k : Kept). are_short (length p.lines.lines) k.jobs) kept ∙ none_short (length p.lines.lines) (actor_count p.script + 1);
+  };
+  ends = ap (λ (k : Kept). ends_turn (due p.script k)) kept;
+}

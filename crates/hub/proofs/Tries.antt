@@ -1,5 +1,5 @@
 -- An event that is due names one of the script's cards or changes, and is for an operation that has begun.
-use Rattle.std.proofs.Common.{◌≡◌, ◌≤◌, ◌&&◌, ◌==◌, ℕ, zero, suc, Bool, true, false, if◌then◌else◌, nat_lt, nat_le, List, [], ◌∷◌, length, slice_get, slice_set, unwrap_or, Option, Some, None, IfSome, is_some, Err, option_map, refl, sym, ap, ◌∙◌, subst, true≢false, arith, eq-eqb}
+use Rattle.std.proofs.Common.{◌≡◌, ◌≤◌, ◌&&◌, ◌==◌, ℕ, zero, suc, Bool, true, false, if◌then◌else◌, nat_lt, nat_le, List, [], ◌∷◌, length, slice_get, slice_set, unwrap_or, Option, Some, None, IfSome, is_some, Result, Ok, Err, option_map, refl, sym, ap, ◌∙◌, subst, true≢false, arith, eq-eqb}
 use Rattle.std.specs.Prelude.{option_and_then}
 use Rattle.std.specs.List.{list_all}
 use Rattle.std.proofs.lemmas.List.{length-map}
@@ -51,7 +51,20 @@ use Rattle.rules.specs.Rules.{same_answer}
 use Rattle.rules.specs.State.{world_after, world_of}
 use Rattle.rules.specs.Channels.{handle_of, is_raw_ins}
 use Rattle.rules.specs.Sessions.{verify_command}
-use Rattle.rules.specs.Work.{first_item, is_starting, living_handle, read_stale, reads_first, sends_close, sends_raw, status_command, work_of_operation}
+use Rattle.adn.specs.declared.edit.Edit.{Edit}
+use Rattle.adn.specs.declared.edit.Edit.TheVariants as edit
+use Rattle.adn.specs.declared.edit.Plan.{Plan}
+use Rattle.adn.specs.declared.edit.PlanError.{PlanError}
+use Rattle.families.specs.Families.{family_plan}
+use Rattle.families.specs.Plans.{plan_updates}
+use Rattle.editor.specs.declared.editing.Attempt.{Attempt}
+use Rattle.editor.specs.declared.editing.Decided.{Decided}
+use Rattle.editor.specs.declared.editing.Editing.{Editing}
+use Rattle.editor.specs.Editing.{edit_paths, next_update, owed_update, planned}
+use Rattle.epoch_cache.specs.Cache.{view_of_files}
+use Rattle.rules.specs.Editing.{first_lack}
+use Rattle.rules.specs.declared.kept.Decision.{Decision}
+use Rattle.rules.specs.Work.{attempts, begins_plan, decided_work, decides, edit_work, undecided_work, first_item, is_starting, living_handle, read_stale, reads_first, sends_close, sends_raw, status_command, work_of_operation}
 use Rattle.performed.specs.Served.{is_served, serves}
 use Rattle.performed.specs.Followed.{are_followed, is_followed}
 use Rattle.performed.specs.Measure.{calls_left, is_begun}
@@ -161,6 +174,42 @@ unfolding work_fits
 close_fits s None = tt
 close_fits s (Some h) = tt
 
+-- an edit tries no event
+lack_fits : (s : Script) (o : Option ℕ) (attempt : Option Attempt) → work_fits s (let d : Decision = elim o [ Some key ↦ decides (lacks key) | None ↦ record { work = writes; attempt = attempt } ] in d).work
+unfolding work_fits
+lack_fits s None attempt = tt
+lack_fits s (Some key) attempt = tt
+
+plan_fits : (s : Script) (k : Kept) (a f : ℕ) (paths : List (List ℕ)) (r : Result Plan PlanError) → work_fits s (let d : Decision = elim r [ Err refusal ↦ decides (refuses refusal) | Ok plan ↦ begins_plan k a f plan paths ] in d).work
+unfolding work_fits
+plan_fits s k a f paths (Err refusal) = tt
+plan_fits s k a f paths (Ok plan) = lack_fits s (first_lack k.history a k.sessions k.files f (plan_updates plan)) (Some (planned f plan paths))
+
+writes_fit : (s : Script) (b : Bool) (other : Work) → work_fits s other → work_fits s (if b then writes else other)
+unfolding work_fits
+writes_fit s true other h = tt
+writes_fit s false other h = h
+
+attempt_fits : (s : Script) (k : Kept) (a f : ℕ) (e : Edit) (o : Option Attempt) (paths : List (List ℕ)) → work_fits s (attempts k a f e o paths).work
+unfolding work_fits
+attempt_fits s k a f e None paths = plan_fits s k a f paths (family_plan f e (view_of_files k.files))
+attempt_fits s k a f e (Some x) paths = writes_fit s (is_some (next_update x)) rests tt
+
+undecided_fits : (s : Script) (k : Kept) (a f : ℕ) (e : Edit) (x : Option Attempt) (o : Option (List ℕ)) → work_fits s (let d : Decision = elim o [ Some path ↦ decides (reads path) | None ↦ attempts k a f e x (edit_paths k.files f) ] in d).work
+unfolding work_fits
+undecided_fits s k a f e x None = attempt_fits s k a f e x (edit_paths k.files f)
+undecided_fits s k a f e x (Some path) = tt
+
+edit_by : (s : Script) (k : Kept) (a f : ℕ) (e : Edit) (editing : Editing) (o : Option Decided) → work_fits s (let d : Decision = elim o [ None ↦ undecided_work k a f e editing.attempt | Some x ↦ decides (decided_work k f editing) ] in d).work
+unfolding work_fits
+edit_by s k a f e editing None = undecided_fits s k a f e editing.attempt (first_missing k.files (edit_paths k.files f))
+edit_by s k a f e editing (Some d) = writes_fit s (is_some (owed_update true editing)) (reads_first k.files (family_paths f)) (missing_fits s (first_missing k.files (family_paths f)))
+
+edit_fits : (s : Script) (k : Kept) (a : ℕ) (b : Begun) (f : ℕ) (e : Edit) (lives : Bool) → work_fits s (let d : Decision = elim lives [ true ↦ edit_work k a f e b.editing | false ↦ decides rests ] in d).work
+unfolding work_fits
+edit_fits s k a b f e true = edit_by s k a f e b.editing b.editing.decided
+edit_fits s k a b f e false = tt
+
 operation_fits : (s : Script) (k : Kept) (a : ℕ) (b : Begun) (op : Operation) → is_served op ≡ true → has_target (length s.cards) (length s.changes) op ≡ true → work_fits s (work_of_operation k a b op).work
 unfolding work_fits fits
 operation_fits s k a b (operation.Insert card) v h = h
@@ -174,6 +223,8 @@ operation_fits s k a b (operation.Verify key pin) v h = if_fits s (lives_in k.hi
 operation_fits s k a b operation.Poll v h = if_fits s (lives_in k.history b.epoch) (sends status_command) tt
 operation_fits s k a b (operation.End key) v h = tt
 operation_fits s k a b operation.Look v h = tt
+operation_fits s k a b (operation.Set f at name number) v h = edit_fits s k a b f (edit.Set at (record { name = name; number = number })) (lives_in k.history b.epoch)
+operation_fits s k a b (operation.Clear f at) v h = edit_fits s k a b f (edit.Clear at) (lives_in k.history b.epoch)
 operation_fits s k a b op v h = absurd (true≢false (sym v))
 
 begun_fits : (s : Script) (k : Kept) (a : ℕ) (b : Option Begun) (op : Option Operation) → ServedOp op → ((x : Operation) → op ≡ Some x → has_target (length s.cards) (length s.changes) x ≡ true) → work_fits s (decision_of_begun k a b op).work

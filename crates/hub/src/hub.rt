@@ -163,8 +163,8 @@ impl<S: ScriptedSlot + Drop> Hub<S> {
         if !self.whole {
             return Err(Memory);
         }
-        self.engine.prepare_mark()?;
-        self.engine.mark(actor);
+        let mark = self.engine.prepare_mark(actor)?;
+        self.engine.mark(actor, mark);
         Ok(())
     }
 
