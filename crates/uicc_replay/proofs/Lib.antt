@@ -4,3 +4,4 @@ pub mod Rounds
 pub mod Taken
 pub mod Turns
 pub mod Ends
+pub mod Unread

@@ -18,8 +18,32 @@ use Rattle.uicc_replay.specs.Replay.{IsReplay, IsSpent}
 use Rattle.uicc_replay.specs.declared.top.Ending.{Ending}
 use Rattle.uicc_replay.specs.declared.top.Ending.TheVariants.{Usage, TooLong, Refused, ReadFault, Spent, Memory, Replayed, Generated}
 use Rattle.uicc_replay.specs.declared.top.Outcome.{Outcome}
-use Rattle.uicc_replay.specs.declared.words.Subcommand.{Subcommand}
-use Rattle.uicc_replay.specs.declared.words.Subcommand.TheVariants.{Replay, Generate}
+use Rattle.subcommands.specs.declared.words.Subcommand.{Subcommand}
+use Rattle.subcommands.specs.declared.words.Subcommand.TheVariants.{Replay, Run, Check, Generate, Bulk}
+
+-- ---- commands
+
+-- the command is served so far
+abbrev pub is_served : Subcommand → Bool
+is_served Replay = true
+is_served Run = false
+is_served Check = false
+is_served (Generate seed size) = true
+is_served (Bulk seed size) = false
+
+-- the command that is asked for, if it is served
+abbrev pub served : Option Subcommand → Option Subcommand
+served None = None
+served (Some command) = if is_served command then Some command else None
+
+-- the command reads the source
+abbrev pub reads : Option Subcommand → Bool
+reads None = false
+reads (Some Replay) = true
+reads (Some Run) = false
+reads (Some Check) = false
+reads (Some (Generate seed size)) = false
+reads (Some (Bulk seed size)) = false
 
 -- ---- what is written
 
@@ -61,9 +85,12 @@ line_of status =
 
 -- the statuses that the words can come to
 abbrev pub is_status : Option Subcommand → ℕ → Bool
-is_status None status = is_one_of status (2 ∷ 5 ∷ [])
+is_status None status = is_one_of status (2 ∷ 5 ∷ 9 ∷ [])
 is_status (Some Replay) status = is_one_of status (0 ∷ 3 ∷ 4 ∷ 5 ∷ 6 ∷ 8 ∷ 9 ∷ [])
+is_status (Some Run) status = is_one_of status (2 ∷ 5 ∷ 9 ∷ [])
+is_status (Some Check) status = is_one_of status (2 ∷ 5 ∷ 9 ∷ [])
 is_status (Some (Generate seed size)) status = is_one_of status (0 ∷ 5 ∷ 9 ∷ [])
+is_status (Some (Bulk seed size)) status = is_one_of status (2 ∷ 5 ∷ 9 ∷ [])
 
 abbrev pub piece_of : Ending → List ℕ
 piece_of Usage = usage_line
@@ -210,16 +237,30 @@ pub record IsGenerated (seed size : ℕ) (before after : SourceValue) (e : Endin
   pub due : IsDueOfSizes seed size e
   pub unread : after ≡ before
 
--- words that are no command read nothing
+-- the ending of words that are no command that is served
+abbrev pub IsDueOfNone : Ending → Type 0
+IsDueOfNone Usage = Unit {0}
+IsDueOfNone TooLong = ⊥
+IsDueOfNone (Refused line) = ⊥
+IsDueOfNone ReadFault = ⊥
+IsDueOfNone (Spent line) = ⊥
+IsDueOfNone Memory = Unit {0}
+IsDueOfNone (Replayed report text) = ⊥
+IsDueOfNone (Generated text) = ⊥
+
+-- such words read nothing
 pub record IsUsage (before after : SourceValue) (e : Ending) : Type 0 where
-  pub ending : e ≡ Usage
+  pub due : IsDueOfNone e
   pub unread : after ≡ before
 
 -- the cause of each ending, of the words and of what the source was before and after
 abbrev pub IsDue : Option Subcommand → SourceValue → SourceValue → Ending → Type 0
 IsDue None before after e = IsUsage before after e
 IsDue (Some Replay) before after e = IsDueOfSource before after e
+IsDue (Some Run) before after e = IsUsage before after e
+IsDue (Some Check) before after e = IsUsage before after e
 IsDue (Some (Generate seed size)) before after e = IsGenerated seed size before after e
+IsDue (Some (Bulk seed size)) before after e = IsUsage before after e
 
 -- ---- what a call did
 
@@ -240,7 +281,10 @@ pub record WroteScript (seed size : ℕ) (before after : StreamsValue) (r : Opti
 abbrev pub IsDone : Option Subcommand → StreamsValue → StreamsValue → Option Report → Type 0
 IsDone None before after r = ⊥
 IsDone (Some Replay) before after r = IsSomeAnd r (IsReplayed before after)
+IsDone (Some Run) before after r = ⊥
+IsDone (Some Check) before after r = ⊥
 IsDone (Some (Generate seed size)) before after r = WroteScript seed size before after r
+IsDone (Some (Bulk seed size)) before after r = ⊥
 
 -- the line was written that tells why the bytes that were read are not replayed
 pub record IsRefused (before after : StreamsValue) : Type 0 where

@@ -4,7 +4,6 @@
 mod replay;
 mod text;
 mod top;
-mod words;
 
 use apdu::{ReaderSource, WriterSink};
 use std::process::ExitCode;

@@ -3,18 +3,18 @@ ghost use Rattle.std.specs.Prelude.{◌≡◌, ◌≢◌, ◌≤◌, true, false
 ghost use Rattle.apdu.specs.Stream.{Rose};
 ghost use Rattle.streams.specs.Streams.{HasMore, Wrote};
 ghost use Rattle.script_reader.specs.Rules.{keeps_rules};
-ghost use Rattle.uicc_replay.specs.Words.{subcommand_of, reads};
-ghost use Rattle.uicc_replay.specs.Top.{line_of, is_status, script_limit, IsDue, IsDueOfSource, IsDueOfBytes, IsDueOfScript, IsDueOfReport, IsDueOfBudget, IsDueOfLine, IsDueOfSizes, IsDone, IsRefused, IsBudgetSpent, WritesPart, Writes, Ends};
+ghost use Rattle.subcommands.specs.Subcommands.{HasSize, subcommand_of};
+ghost use Rattle.uicc_replay.specs.Top.{served, reads, line_of, is_status, script_limit, IsDue, IsDueOfSource, IsDueOfBytes, IsDueOfScript, IsDueOfReport, IsDueOfBudget, IsDueOfLine, IsDueOfSizes, IsDone, IsRefused, IsBudgetSpent, WritesPart, Writes, Ends};
 
 use crate::replay::{Replayed, replay};
 use crate::text::{budget_text, generated_text, refused_text};
-use crate::words::{Subcommand, subcommand_of};
 use apdu::{Bytes, Memory, Sink, Source, Text};
 use hub::serves;
 use report::{Report, write_report};
 use script::{Script, ScriptError, read_script};
 use std::alloc::Global;
 use streams::{Input, Streams, read_all};
+use subcommands::{Subcommand, read_words};
 
 /// How a call of the program ended: its status, and the report where there is one.
 #[derive(Drop)]
@@ -26,7 +26,7 @@ pub struct Outcome {
 /// How a call ends, if the sink takes what it writes.
 #[derive(Drop)]
 pub enum Ending {
-    /// The words are no command.
+    /// The words are no command that is served.
     Usage,
     /// The source gave more bytes than a script may have.
     TooLong,
@@ -135,7 +135,25 @@ fn ending_of_source<S: Source, K: Sink>(alloc: Global, streams: &mut Streams<S, 
     }
 }
 
+/// How a call of this command ends.
+fn ending_of_command<S: Source, K: Sink>(
+    alloc: Global,
+    command: Option<Subcommand>,
+    streams: &mut Streams<S, K>,
+) -> Ending
+    requires { IfSome command HasSize }
+    ensures due { IsDue command streams.old.source streams.new.source result }
+    ensures sink { streams.new.sink ≡ streams.old.sink }
+{
+    match command {
+        Some(Subcommand::Replay) => ending_of_source(alloc, streams),
+        Some(Subcommand::Generate { seed, size }) => ending_of_sizes(alloc, seed, size),
+        Some(Subcommand::Run | Subcommand::Check | Subcommand::Bulk { .. }) | None => Ending::Usage,
+    }
+}
+
 /// How the call ends.
+#[tactic(auto, using(crate::proofs::Unread::memory_is_due))]
 fn ending_of<S: Source, K: Sink>(
     alloc: Global,
     words: &[String],
@@ -144,10 +162,9 @@ fn ending_of<S: Source, K: Sink>(
     ensures due { IsDue (subcommand_of words.now) streams.old.source streams.new.source result }
     ensures sink { streams.new.sink ≡ streams.old.sink }
 {
-    match subcommand_of(words) {
-        Some(Subcommand::Replay) => ending_of_source(alloc, streams),
-        Some(Subcommand::Generate { seed, size }) => ending_of_sizes(alloc, seed, size),
-        None => Ending::Usage,
+    match read_words(alloc, words) {
+        Ok(command) => ending_of_command(alloc, command, streams),
+        Err(_) => Ending::Memory,
     }
 }
 
@@ -203,7 +220,8 @@ fn write_ending<S: Source, K: Sink>(streams: &mut Streams<S, K>, ending: Ending)
 /// nothing, and at status 0 the generated script was written whole. Each other status says what stood in
 /// the way, and its line was written: bytes that are no script, or a script of what is not served so far
 /// (3), a run that spent its budget before it was finished (6), more bytes than a script may have (8),
-/// words that are no command (2), a source (4) or a sink (5) that failed, or want of memory (9).
+/// words that are no command that is served (2), a source (4) or a sink (5) that failed, or want of
+/// memory (9).
 pub fn top<S: Source, K: Sink>(
     alloc: Global,
     words: &[String],
@@ -214,7 +232,7 @@ pub fn top<S: Source, K: Sink>(
     // events, and is not finished.
     ensures done { result.status ≡ 0
         → IsDone (subcommand_of words.now) streams.old streams.new result.report }
-    ensures usage { result.status ≡ 2 → subcommand_of words.now ≡ None }
+    ensures usage { result.status ≡ 2 → served (subcommand_of words.now) ≡ None }
     ensures refused { result.status ≡ 3 → IsRefused streams.old streams.new }
     ensures read { result.status ≡ 4 → Rose streams.old.source.faults streams.new.source.faults }
     ensures write { result.status ≡ 5 → Rose streams.old.sink.faults streams.new.sink.faults }
@@ -222,7 +240,8 @@ pub fn top<S: Source, K: Sink>(
     ensures too_long { result.status ≡ 8
         → HasMore script_limit streams.old.source streams.new.source }
 
-    // The statuses of each command; words that are none end in 2 or 5. Only a replay reads.
+    // The statuses of each command; words that are none that is served end in 2, 5 or 9. Only a
+    // replay reads.
     ensures known { IsTrue (is_status (subcommand_of words.now) result.status) }
     ensures unread { reads (subcommand_of words.now) ≡ false
         → streams.new.source ≡ streams.old.source }
