@@ -1,5 +1,5 @@
 -- An edit that has decided began in an epoch.
-use Rattle.std.proofs.Common.{◌≡◌, ◌⊎◌, inl, inr, ℕ, ◌+◌, Bool, true, false, if◌then◌else◌, Option, Some, None, is_some, List, [], ◌∷◌, refl, sym, ap, ◌∙◌, true≢false}
+use Rattle.std.proofs.Common.{◌≡◌, ◌⊎◌, inl, inr, ℕ, ◌+◌, Bool, true, false, if◌then◌else◌, Option, Some, None, is_some, List, [], ◌∷◌, refl, sym, ap, ◌∙◌, subst}
 use Rattle.std.proofs.lemmas.Bool.{and_parts}
 use Rattle.apdu.specs.Values.{CommandValue, ResponseValue}
 use Rattle.apdu.specs.Apdu.{is_update_ins}
@@ -11,12 +11,15 @@ use Rattle.report.specs.declared.line.Line.TheVariants as line
 use Rattle.adn.specs.declared.edit.Edit.{Edit}
 use Rattle.editor.specs.declared.editing.Decided.{Decided}
 use Rattle.editor.specs.declared.editing.Editing.{Editing}
-use Rattle.editor.specs.Editing.{moved_editing}
+use Rattle.editor.specs.Editing.{moved_editing, no_editing, lost_update}
+use Rattle.epoch_cache.specs.declared.past.Past.{Past}
+use Rattle.families.specs.Families.{family_path}
+use Rattle.link.specs.Commands.{is_at}
 use Rattle.rules.specs.declared.kept.Begun.{Begun}
 use Rattle.rules.specs.declared.kept.Kept.{Kept}
 use Rattle.rules.specs.History.{lives_in}
 use Rattle.rules.specs.Kept.{actor_count, begun_of, operation_at, operation_now, begun_operation}
-use Rattle.rules.specs.After.{edit_of, begun_exchanged, facts_of, kept_after, kept_of}
+use Rattle.rules.specs.After.{edit_of, editing_lost, editing_sent, begun_exchanged, decision_at, facts_of, kept_after, kept_of}
 use Rattle.rules.specs.Laws.{KeptAgrees, PlansForCard}
 use Rattle.rules.specs.Rules.{has_right_response}
 use Rattle.rules.specs.State.{world_of}
@@ -25,7 +28,6 @@ use Rattle.performed.specs.Followed.{is_followed, are_followed}
 use Rattle.performed.specs.Told.{is_told, are_told}
 use Rattle.performed.proofs.CalmAnswers.{told_response}
 use Rattle.performed.proofs.CalmSends.{never}
-use Rattle.performed.proofs.EditsAttempt.{lost_same}
 use Rattle.performed.proofs.EditsBegun.{near, Came, stays, marks, begins, exchanges, fails, came}
 use Rattle.performed.proofs.EditsKept.{How, still, by_raw, by_edit, how, raw_edits, own, own_actor}
 use Rattle.performed.proofs.EditsOver.{begun_same}
@@ -33,6 +35,7 @@ use Rattle.performed.proofs.EditsState.{Edited}
 use Rattle.performed.proofs.EditsSteps.{exchanged_same}
 use Rattle.performed.proofs.EditsWhole.{edited_of}
 use Rattle.performed.proofs.EpochBegun.{first_begun}
+use Rattle.performed.proofs.EpochDecided.{with_decided, sent_decided}
 
 abbrev DecidedSince : Script → Kept → Type 0
 DecidedSince s k = (i : ℕ) (b : Begun) (f : ℕ) (e : Edit) → begun_of i k.jobs ≡ Some b → edit_of (operation_at s i b.index) ≡ Some (f, e) → is_some b.editing.decided ≡ true → is_some b.epoch ≡ true
@@ -50,7 +53,7 @@ lost_decided (Some (f, d)) selected event c e = by_update (is_update_ins c.ins)
     by_main true = refl
     by_main false = refl
 
-    by_update : (b : Bool) → (if b then lost_update f selected event c e else e).decided ≡ e.decided
+    by_update : (b : Bool) → (if b then lost_update f selected event e else e).decided ≡ e.decided
     by_update true = by_main (is_at selected (family_path f 0))
     by_update false = refl
 
@@ -85,16 +88,16 @@ module _ (agrees : KeptAgrees) (s : Script) (rules : keeps_rules s ≡ true) (se
 
   line_since : (l : Line) → is_followed s k l ≡ true → is_told s (world_of s earlier) k l ≡ true → (i : ℕ) (b : Begun) (f : ℕ) (e : Edit) → Came s l k i b → edit_of (operation_at s i b.index) ≡ Some (f, e) → is_some b.editing.decided ≡ true → is_some b.epoch ≡ true
   line_since l h q i b f e (stays old here other is) = old_since i b old f e here (ap (λ (x : Begun). x.index) is) (ap (λ (x : Begun). x.epoch) is) (ap (λ (x : Begun). x.editing.decided) is)
-  line_since l h q i b f e (marks a old own at here is) =
+  line_since l h q i b f e (marks a old mine at here is) =
       old_since i b old f e here (ap (λ (x : Begun). x.index) is) (ap (λ (x : Begun). x.epoch) is) (ap (λ (x : Begun). x.editing.decided) is ∙ with_decided (decision_at s l k).attempt (near s l k old).editing)
-  line_since l h q i b f e (begins a n own at is) = λ op d. never (sym (ap (λ (x : Begun). is_some x.editing.decided) is ∙ ap is_some (with_decided (decision_at s l k).attempt no_editing)) ∙ d)
-  line_since l h q i b f e (exchanges a c r old own at here is) = by_line at h q
+  line_since l h q i b f e (begins a n mine at is) = λ op d. never (sym (ap (λ (x : Begun). is_some x.editing.decided) is ∙ ap is_some (with_decided (decision_at s l k).attempt no_editing)) ∙ d)
+  line_since l h q i b f e (exchanges a c r old mine at here is) = by_line at h q
     where
       by_line : l ≡ line.Exchange a c r → is_followed s k l ≡ true → is_told s (world_of s earlier) k l ≡ true → edit_of (operation_at s i b.index) ≡ Some (f, e) → is_some b.editing.decided ≡ true → is_some b.epoch ≡ true
       by_line same h2 q2 =
-          exchanged_since a c r (subst (λ (x : Line). is_followed s k x ≡ true) same h2) (told_response s (world_of s earlier) k (line.Exchange a c r) (subst (λ (x : Line). is_told s (world_of s earlier) k x ≡ true) same q2)) i b old f e own here
+          exchanged_since a c r (subst (λ (x : Line). is_followed s k x ≡ true) same h2) (told_response s (world_of s earlier) k (line.Exchange a c r) (subst (λ (x : Line). is_told s (world_of s earlier) k x ≡ true) same q2)) i b old f e mine here
           (is ∙ ap (λ (x : Line). begun_exchanged (edit_of (operation_now s a k.jobs)) k.selected k.chain (k.history.events + 1) c r (near s x k old)) same)
-  line_since l h q i b f e (fails a c x old own at here is) =
+  line_since l h q i b f e (fails a c x old mine at here is) =
       old_since i b old f e here (ap (λ (y : Begun). y.index) is) (ap (λ (y : Begun). y.epoch) is)
       (ap (λ (y : Begun). y.editing.decided) is ∙ lost_decided (edit_of (operation_now s a k.jobs)) k.selected (k.history.events + 1) c (editing_sent c k.chain (near s l k old).editing) ∙ sent_decided c k.chain (near s l k old).editing)
 

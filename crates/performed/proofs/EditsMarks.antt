@@ -45,7 +45,7 @@ use Rattle.performed.proofs.EpochPast.{IsPast, past_dead}
 
 -- ---- an edit that was refused owes an answer
 
-card_some : (epoch : Option ℕ) (b : Begun) (o : Option Answer) → is_some o ≡ true → is_some (with_card epoch b o) ≡ true
+pub card_some : (epoch : Option ℕ) (b : Begun) (o : Option Answer) → is_some o ≡ true → is_some (with_card epoch b o) ≡ true
 card_some None b o h = refl
 card_some (Some epoch) b o h = by_ended b.ended (is_lost b.ended b.editing.lost)
   where

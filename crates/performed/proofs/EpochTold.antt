@@ -30,6 +30,12 @@ record IsEnding (t : Option (ℕ × ℕ)) (o : Option ℕ) : Type 0 where
   turn : t ≡ Some (epoch, event)
   is : same_number o (Some epoch) ≡ true
 
+one_pair : (p q : ℕ × ℕ) → Some p ≡ Some q → p ≡ q
+one_pair p q h = cc
+
+no_pair : (p : ℕ × ℕ) → None ≡ Some p → ⊥
+no_pair p h = absurd (cc)
+
 -- ---- while a turn has an end to tell, no other line is due
 
 follows_none : (s : Script) (k : Kept) (e n : ℕ) (l : Line) → tells_end l ≡ false → follows s k (tell_end e n) l ≡ true → ⊥
@@ -93,7 +99,7 @@ AreTold k = (i : ℕ) (b : Begun) → begun_of i k.jobs ≡ Some b → IsTold k.
 
 module _ (s : Script) (k : Kept) (t : AreTold k) where
   none_ending : (o : Option ℕ) → k.turn.ended ≡ None → IsEnding k.turn.ended o → ⊥
-  none_ending o none x = let e : None ≡ Some (x.epoch, x.event) = sym none ∙ x.turn in cc
+  none_ending o none x = no_pair (x.epoch, x.event) (sym none ∙ x.turn)
 
   told_before : (b : Begun) (i : ℕ) → begun_of i k.jobs ≡ Some b → k.turn.ended ≡ None → is_some b.ended ≡ true → is_some b.told ≡ true
   told_before b i here none h = by_told (t i b here h)
@@ -132,7 +138,7 @@ module _ (s : Script) (k : Kept) (t : AreTold k) where
       number_if false z = never z
 
       same_pair : (g m : ℕ) (y : IsEnding k.turn.ended x.old.epoch) → k.turn.ended ≡ Some (g, m) → y.epoch ≡ g
-      same_pair g m y z = let w : Some (y.epoch, y.event) ≡ Some (g, m) = sym y.turn ∙ z in cc
+      same_pair g m y z = ap (λ (p : ℕ × ℕ). p.0) (one_pair (y.epoch, y.event) (g, m) (sym y.turn ∙ z))
 
       by_told : (g m : ℕ) → e ≡ g → k.turn.ended ≡ Some (g, m) → (is_some x.old.told ≡ true) ⊎ IsEnding k.turn.ended x.old.epoch → is_some (if same_number x.old.epoch (Some e) then Some number else x.old.told) ≡ true
       by_told g m same z (inl told) = some_if (same_number x.old.epoch (Some e)) told
@@ -160,11 +166,11 @@ module _ (s : Script) (k : Kept) (t : AreTold k) where
   line_told (line.Answered a j given) h i now x = still_told (line.Answered a j given) h refl i now x
 
   came_told : (l : Line) → is_followed s k l ≡ true → (i : ℕ) (now : Begun) → Came s l k i now → IsTold (kept_after s l k).turn.ended now
-  came_told l h i now (stays b here other is) = line_told l h i now (record { old = b; here = here; epoch = ap (λ (x : Begun). x.epoch) is; ended = ap (λ (x : Begun). x.ended) is; told = ap (λ (x : Begun). x.told) is })
-  came_told l h i now (marks a b own at here is) = line_told l h i now (record { old = b; here = here; epoch = ap (λ (x : Begun). x.epoch) is; ended = ap (λ (x : Begun). x.ended) is; told = ap (λ (x : Begun). x.told) is })
+  came_told l h i now (stays b here other is) q = line_told l h i now (record { old = b; here = here; epoch = ap (λ (x : Begun). x.epoch) is; ended = ap (λ (x : Begun). x.ended) is; told = ap (λ (x : Begun). x.told) is }) q
+  came_told l h i now (marks a b own at here is) q = line_told l h i now (record { old = b; here = here; epoch = ap (λ (x : Begun). x.epoch) is; ended = ap (λ (x : Begun). x.ended) is; told = ap (λ (x : Begun). x.told) is }) q
   came_told l h i now (begins a n own at is) q = never (sym (ap (λ (x : Begun). is_some x.ended) is) ∙ q)
-  came_told l h i now (exchanges a c r b own at here is) = line_told l h i now (record { old = b; here = here; epoch = ap (λ (x : Begun). x.epoch) is; ended = ap (λ (x : Begun). x.ended) is; told = ap (λ (x : Begun). x.told) is })
-  came_told l h i now (fails a c d b own at here is) = line_told l h i now (record { old = b; here = here; epoch = ap (λ (x : Begun). x.epoch) is; ended = ap (λ (x : Begun). x.ended) is; told = ap (λ (x : Begun). x.told) is })
+  came_told l h i now (exchanges a c r b own at here is) q = line_told l h i now (record { old = b; here = here; epoch = ap (λ (x : Begun). x.epoch) is; ended = ap (λ (x : Begun). x.ended) is; told = ap (λ (x : Begun). x.told) is }) q
+  came_told l h i now (fails a c d b own at here is) q = line_told l h i now (record { old = b; here = here; epoch = ap (λ (x : Begun). x.epoch) is; ended = ap (λ (x : Begun). x.ended) is; told = ap (λ (x : Begun). x.told) is }) q
 
 told_all : (s : Script) (lines : List Line) → are_followed s lines ≡ true → AreTold (kept_of s lines)
 told_all s [] f i b here = let e : Some b ≡ None = sym here ∙ first_begun (actor_count s + 1) i in absurd (cc)

@@ -75,6 +75,7 @@ pub mod ProgressBegins
 pub mod ProgressSound
 pub mod ProgressHandles
 pub mod ProgressGoes
+pub mod ProgressEdits
 pub mod ProgressMoves
 pub mod JobPlaces
 pub mod CalmKinds

@@ -127,7 +127,7 @@ read_is None = refl
 read_is (Some path) = refl
 
 module _ (s : Script) (k : Kept) (actor : ℕ) (t : IsFreshTurn k actor) where
-  first_sent : is_some (due_command k) ≡ is_some (first_command k.selected (job_of actor k.jobs) k.turn.work)
+  pub first_sent : is_some (due_command k) ≡ is_some (first_command k.selected (job_of actor k.jobs) k.turn.work)
   first_sent =
       ap (λ (o : Option Chain). is_some (command_by_chain k o)) t.chain
       ∙ ap (λ (st : Stage). is_some (command_by_stage k st)) t.stage
@@ -136,7 +136,7 @@ module _ (s : Script) (k : Kept) (actor : ℕ) (t : IsFreshTurn k actor) where
   pub sends_goes : (c : CommandValue) → k.turn.work ≡ sends c → ends_turn (due s k) ≡ false
   sends_goes c w = goes_by_command s k (first_sent ∙ ap (λ (x : Work). is_some (first_command k.selected (job_of actor k.jobs) x)) w)
 
-  reads_goes : (path : List ℕ) → k.turn.work ≡ reads path → ends_turn (due s k) ≡ false
+  pub reads_goes : (path : List ℕ) → k.turn.work ≡ reads path → ends_turn (due s k) ≡ false
   reads_goes path w = goes_by_command s k (first_sent ∙ ap (λ (x : Work). is_some (first_command k.selected (job_of actor k.jobs) x)) w)
 
   pub resets_goes : k.turn.work ≡ resets → ends_turn (due s k) ≡ false
@@ -173,6 +173,8 @@ pub record RunsAs (s : Script) (k before : Kept) (actor : ℕ) (b now : Begun) (
   pub lives : lives_or_ended before.history now.epoch now.ended ≡ true
   pub handles : k.handles ≡ before.handles
   pub held : are_sound_handles before.history before.handles ≡ true
+  pub told : now.told ≡ b.told
+  pub editing : now.editing ≡ with_attempt (work_of_operation before actor b op).attempt b.editing
 
 or_none : (a : Bool) → (a || false) ≡ true → a ≡ true
 or_none true h = refl
@@ -280,16 +282,19 @@ module _ (s : Script) (k before : Kept) (actor : ℕ) (b now : Begun) where
   either_given true x y = refl
   either_given false x y = refl
 
-  pub operation_goes : (op : Operation) → is_served op ≡ true → RunsAs s k before actor b now op → ends_turn (due s k) ≡ false
-  operation_goes (operation.Insert card) served r = happens_goes s k actor r.turn (world_event.Insert card) r.work
-  operation_goes operation.Out served r = happens_goes s k actor r.turn world_event.Out r.work
-  operation_goes (operation.Arm change) served r = happens_goes s k actor r.turn (world_event.Arm change) r.work
-  operation_goes (operation.Load f) served r = load_of f now.epoch r refl
-  operation_goes (operation.OpenChannel handle aid) served r = sent_of open_command (operation.OpenChannel handle aid) r (record { work = r.work; answer = refl }) now.epoch refl
-  operation_goes (operation.Raw handle apdu) served r = raw_of handle apdu r (handle_of actor handle before.handles) refl
-  operation_goes (operation.Close handle) served r = close_of handle r (handle_of actor handle before.handles) refl
-  operation_goes (operation.Verify key pin) served r = sent_of (verify_command key pin) (operation.Verify key pin) r (record { work = r.work; answer = refl }) now.epoch refl
-  operation_goes operation.Poll served r = sent_of status_command operation.Poll r (record { work = r.work; answer = refl }) now.epoch refl
-  operation_goes (operation.End key) served r = goes_by_answer s k (ap is_some (answers (operation.End key) r) ∙ either_given (has_session actor key k.sessions) answer.Ended (answer.NotHeldKey key))
-  operation_goes operation.Look served r = goes_by_answer s k (ap is_some (answers operation.Look r))
-  operation_goes op served r = absurd (true≢false (sym served))
+  -- given what becomes of an edit
+  pub operation_goes : (op : Operation) → is_served op ≡ true → RunsAs s k before actor b now op → ((f : ℕ) (e : Edit) → family_edit op ≡ Some (f, e) → ends_turn (due s k) ≡ false) → ends_turn (due s k) ≡ false
+  operation_goes (operation.Insert card) served r edits = happens_goes s k actor r.turn (world_event.Insert card) r.work
+  operation_goes operation.Out served r edits = happens_goes s k actor r.turn world_event.Out r.work
+  operation_goes (operation.Arm change) served r edits = happens_goes s k actor r.turn (world_event.Arm change) r.work
+  operation_goes (operation.Load f) served r edits = load_of f now.epoch r refl
+  operation_goes (operation.OpenChannel handle aid) served r edits = sent_of open_command (operation.OpenChannel handle aid) r (record { work = r.work; answer = refl }) now.epoch refl
+  operation_goes (operation.Raw handle apdu) served r edits = raw_of handle apdu r (handle_of actor handle before.handles) refl
+  operation_goes (operation.Close handle) served r edits = close_of handle r (handle_of actor handle before.handles) refl
+  operation_goes (operation.Verify key pin) served r edits = sent_of (verify_command key pin) (operation.Verify key pin) r (record { work = r.work; answer = refl }) now.epoch refl
+  operation_goes operation.Poll served r edits = sent_of status_command operation.Poll r (record { work = r.work; answer = refl }) now.epoch refl
+  operation_goes (operation.End key) served r edits = goes_by_answer s k (ap is_some (answers (operation.End key) r) ∙ either_given (has_session actor key k.sessions) answer.Ended (answer.NotHeldKey key))
+  operation_goes operation.Look served r edits = goes_by_answer s k (ap is_some (answers operation.Look r))
+  operation_goes (operation.Set f at name number) served r edits = edits f (edit.Set at (record { name = name; number = number })) refl
+  operation_goes (operation.Clear f at) served r edits = edits f (edit.Clear at) refl
+  operation_goes op served r edits = absurd (true≢false (sym served))

@@ -51,9 +51,10 @@ TurnsEnd = (s : Script) (lines : List Line) (l : Line) → are_followed s (l ∷
 
 -- ---- turns move
 
--- a turn that neither waits nor finds nothing left has something to do
+-- a turn that neither waits nor finds nothing left has something to do, where the lines show what the slot gave: an attempt of an edit has
+-- an update to send only as long as a card answers it
 abbrev pub MarksMove : Type 0
-MarksMove = (s : Script) (lines : List Line) (a : ℕ) → serves s ≡ true → are_followed s (line.Turn a ∷ lines) ≡ true → is_idle s (kept_of s lines) a ≡ false → ends_turn (due s (kept_of s (line.Turn a ∷ lines))) ≡ false
+MarksMove = (s : Script) (lines : List Line) (a : ℕ) → keeps_rules s ≡ true → serves s ≡ true → are_followed s (line.Turn a ∷ lines) ≡ true → are_told s lines ≡ true → is_idle s (kept_of s lines) a ≡ false → ends_turn (due s (kept_of s (line.Turn a ∷ lines))) ≡ false
 
 -- so has one that begins an operation, also behind its first line
 abbrev pub BeginsMove : Type 0
@@ -85,7 +86,7 @@ abbrev pub has_no_mark : List Line → Bool
 has_no_mark lines = list_all (λ l. not (is_mark l)) lines
 
 abbrev pub TurnsMove : Type 0
-TurnsMove = (s : Script) (earlier added : List Line) (a : ℕ) → serves s ≡ true → are_followed s (added ++ line.Turn a ∷ earlier) ≡ true → has_no_mark added ≡ true → is_idle s (kept_of s earlier) a ≡ false → ends_turn (due s (kept_of s (added ++ line.Turn a ∷ earlier))) ≡ true → Moves s (kept_of s earlier) (kept_of s (added ++ line.Turn a ∷ earlier))
+TurnsMove = (s : Script) (earlier added : List Line) (a : ℕ) → keeps_rules s ≡ true → serves s ≡ true → are_followed s (added ++ line.Turn a ∷ earlier) ≡ true → are_told s earlier ≡ true → has_no_mark added ≡ true → is_idle s (kept_of s earlier) a ≡ false → ends_turn (due s (kept_of s (added ++ line.Turn a ∷ earlier))) ≡ true → Moves s (kept_of s earlier) (kept_of s (added ++ line.Turn a ∷ earlier))
 
 -- nobody's turn would move once it is
 abbrev pub NobodyMoves : Type 0
