@@ -11,11 +11,9 @@ use Rattle.report.specs.declared.line.Line.TheVariants as line
 use Rattle.report.specs.declared.lines.Report.{Report}
 use Rattle.rules.specs.State.{State, state_of, state_after}
 use Rattle.rules.specs.Legal.{lowest_broken, line_tests, end_tests, changed_in, Judged, at_line, judged_after, judged_of, judged_end, first_broken}
+use Rattle.trace_check.specs.UpTo.{seen, IsUnbroken}
 
 -- ---- the lines so far, the newest first
-
-abbrev pub seen : ℕ → List Line → List Line
-seen at lines = reverse (take at (reverse lines))
 
 pub seen_more : (lines : List Line) (at : ℕ) (l : Line) → slice_get (reverse lines) at ≡ Some l → seen (at + 1) lines ≡ l ∷ seen at lines
 seen_more lines at l e =
@@ -39,10 +37,6 @@ seen_behind lines at =
     ∙ reverse-reverse lines
 
 -- ---- what was judged
-
--- these lines break no rule
-pub record IsUnbroken (s : Script) (m : Mode) (lines : List Line) (at : ℕ) : Type 0 where
-  pub judged : judged_of s m lines ≡ record { state = state_of s lines; next = at + 3; broken = None }
 
 pub unbroken_first : (s : Script) (m : Mode) → IsUnbroken s m [] 0
 unbroken_first s m = record { judged = refl }

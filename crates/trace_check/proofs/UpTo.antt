@@ -8,14 +8,10 @@ use Rattle.trace_check.specs.declared.behind.Behind.{Behind}
 use Rattle.trace_check.specs.Behind.{IsBehind}
 use Rattle.trace_check.specs.Displays.{AreShown}
 use Rattle.trace_check.specs.Judging.{tests_now, end_tests_now, IsFirst, IsReady, Follows}
-use Rattle.trace_check.proofs.Judged.{seen, seen_more, seen_all, IsUnbroken, unbroken_first, unbroken_more, first_at, first_at_end}
+use Rattle.trace_check.specs.UpTo.{seen, IsUnbroken, UpTo}
+use Rattle.trace_check.proofs.Judged.{seen_more, seen_all, unbroken_first, unbroken_more, first_at, first_at_end}
 use Rattle.trace_check.proofs.Knowing.{lowest_now, lowest_at_end}
 use Rattle.trace_check.proofs.Stepping.{behind_none, behind_more}
-
--- the lines up to one break no rule, and this stands behind them
-pub record UpTo (r : Report) (at : ℕ) (b : Behind) : Type 0 where
-  pub behind : IsBehind r.script (seen at r.lines) b
-  pub judged : IsUnbroken r.script r.mode (seen at r.lines) at
 
 pub upto_first : (r : Report) (b : Behind) → IsFirst r.script b → UpTo r 0 b
 upto_first r b h = record { behind = behind_none r.script b h; judged = unbroken_first r.script r.mode }

@@ -5,4 +5,5 @@ pub mod Edits
 pub mod Exchanging
 pub mod Judging
 pub mod Plans
+pub mod UpTo
 pub mod Verdict

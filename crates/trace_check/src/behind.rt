@@ -17,7 +17,7 @@ use crate::plans::FamilyPlans;
 use apdu::{Memory, Sequence};
 use card_model::{ScriptedSlot, Slot, World};
 use planner::{decision_at_begin, decision_at_turn, handles_fit, turn_fits};
-use report::{Line, Mode};
+use report::{Line, Mode, Report};
 use script::Script;
 use sim_card::SimSlot;
 use std::alloc::Global;
@@ -143,6 +143,20 @@ pub struct Bench<'a> {
     pub alloc: Global,
     pub script: &'a Script,
     pub mode: Mode,
+}
+
+impl<'a> Bench<'a> {
+    /// By the script and the mode of a report.
+    pub fn new(alloc: Global, report: &'a Report) -> Bench<'a>
+        ensures script { result.script.now ≡ report.now.script }
+        ensures mode { result.mode ≡ report.now.mode }
+    {
+        Bench {
+            alloc,
+            script: &report.script,
+            mode: report.mode,
+        }
+    }
 }
 
 impl Bench<'_> {

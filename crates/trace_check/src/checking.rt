@@ -1,7 +1,8 @@
 // Whether a report is legal.
-ghost use Rattle.std.specs.Prelude.{◌≡◌, ◌<◌, true, Some, length, reverse, slice_get, IfOk};
+ghost use Rattle.std.specs.Prelude.{◌≡◌, ◌<◌, ◌+◌, ◌^◌, true, Some, length, reverse, slice_get, is_err, IfOk, OnOk};
 ghost use Rattle.rules.specs.Legal.{at_line, first_broken};
 ghost use Rattle.script_reader.specs.Rules.{keeps_rules};
+ghost use Rattle.trace_check.specs.UpTo.{UpTo};
 ghost use Rattle.trace_check.specs.Verdict as spec;
 
 use crate::behind::{Behind, Bench};
@@ -57,9 +58,61 @@ fn line_of(lines: &Lines, at: usize) -> Result<Line, Memory>
     }
 }
 
+/// Judges a line behind the lines before it; `at` is its index.
+#[tactic(auto, using(crate::proofs::UpTo::upto_ready))]
+fn judge_line(
+    alloc: Global,
+    report: &Report,
+    at: usize,
+    line: &Line,
+    behind: &mut Behind,
+) -> Result<(), CheckError>
+    requires rules { keeps_rules report.now.script ≡ true }
+    requires few { at + 3 < 2 ^ 64 }
+    requires line { slice_get (reverse report.now.lines) at ≡ Some line.now }
+    requires before { UpTo report.now at behind.old }
+    ensures more { OnOk result (UpTo report.now (at + 1) behind.new) }
+    ensures broken { is_err result ≡ true → spec.Says (first_broken report.now) result }
+{
+    let bench = Bench::new(alloc, report);
+    let broken = bench.judge(behind, line)?;
+    verdict(at as u64 + 3, broken)
+}
+
+/// Judges the line of this index.
+fn judge_next(
+    alloc: Global,
+    report: &Report,
+    at: usize,
+    behind: &mut Behind,
+) -> Result<(), CheckError>
+    requires rules { keeps_rules report.now.script ≡ true }
+    requires few { at + 3 < 2 ^ 64 }
+    requires within { at < length report.now.lines }
+    requires before { UpTo report.now at behind.old }
+    ensures more { OnOk result (UpTo report.now (at + 1) behind.new) }
+    ensures broken { is_err result ≡ true → spec.Says (first_broken report.now) result }
+{
+    let line = line_of(&report.lines, at)?;
+    judge_line(alloc, report, at, &line, behind)
+}
+
+/// Judges the end of a report of which no line breaks a rule.
+#[tactic(auto, using(crate::proofs::UpTo::upto_ready))]
+fn judge_end(alloc: Global, report: &Report, behind: &Behind) -> Result<(), CheckError>
+    requires rules { keeps_rules report.now.script ≡ true }
+    requires few { length report.now.lines + 3 < 2 ^ 64 }
+    requires before { UpTo report.now (length report.now.lines) behind.now }
+    ensures { spec.Says (first_broken report.now) result }
+{
+    let bench = Bench::new(alloc, report);
+    let broken = bench.judge_end(behind)?;
+    verdict(report.lines.len() as u64 + 3, broken)
+}
+
 /// Whether a report is legal: no rule is broken up to any of its lines, nor up to its end. Its lines are taken one by one, from the first
 /// on, and the time is linear in them.
-#[tactic(auto, using(crate::proofs::UpTo::upto_first, crate::proofs::UpTo::upto_ready, crate::proofs::UpTo::upto_more, crate::proofs::UpTo::upto_broken, crate::proofs::UpTo::upto_end))]
+#[tactic(auto, using(crate::proofs::UpTo::upto_first))]
 pub fn check(alloc: Global, report: &Report) -> Result<(), CheckError>
     requires { keeps_rules report.now.script ≡ true }
     ensures { spec.Says (first_broken report.now) result }
@@ -67,15 +120,9 @@ pub fn check(alloc: Global, report: &Report) -> Result<(), CheckError>
     if report.lines.len() > MOST_LINES {
         return Err(CheckError::Memory);
     }
-    let bench = Bench {
-        alloc,
-        script: &report.script,
-        mode: report.mode,
-    };
     let mut behind = Behind::new(alloc, &report.script)?;
     for at in 0..report.lines.len() {
-        let line = line_of(&report.lines, at)?;
-        verdict(at as u64 + 3, bench.judge(&mut behind, &line)?)?;
+        judge_next(alloc, report, at, &mut behind)?;
     }
-    verdict(report.lines.len() as u64 + 3, bench.judge_end(&behind)?)
+    judge_end(alloc, report, &behind)
 }

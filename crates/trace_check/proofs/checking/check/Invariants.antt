@@ -1,4 +1,4 @@
-use Rattle.trace_check.proofs.UpTo.{UpTo}
+use Rattle.trace_check.specs.UpTo.{UpTo}
 use Rattle.trace_check.proofs.checking.check.Given as goal
 
 abbrev pub invariant-loop-at : goal.invariant-loop-at
