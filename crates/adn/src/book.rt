@@ -24,7 +24,7 @@ pub fn decode_book(alloc: Global, main: &Rows, ext: &Rows) -> Result<Book, Memor
 }
 
 /// What a row of the main file holds.
-fn book_row(alloc: Global, ext: &Rows, row: &[u8]) -> Result<BookRow, Memory>
+pub fn book_row(alloc: Global, ext: &Rows, row: &[u8]) -> Result<BookRow, Memory>
     ensures { IfOk result (λ found. found
         ≡ phonebook.book_row (phonebook.extension_rows ext.now) row.now) }
 {

@@ -1,6 +1,8 @@
 // The rows of a phonebook.
+ghost use Rattle.std.specs.Prelude.{◌≡◌, IfOk};
 
-use apdu::{Sequence, Text};
+use apdu::{Memory, Sequence, Text};
+use std::alloc::Global;
 
 /// An entry of the phonebook. Its name and its number are not both empty.
 #[derive(Drop)]
@@ -23,3 +25,38 @@ pub enum BookRow {
 
 /// The rows of a phonebook in their order, row 1 first.
 pub type Book = Sequence<BookRow>;
+
+impl AdnEntry {
+    pub fn copy(&self, alloc: Global) -> Result<AdnEntry, Memory>
+        ensures { IfOk result (λ entry. entry ≡ self.now) }
+    {
+        Ok(AdnEntry {
+            name: Text::from_str(alloc, self.name.as_str())?,
+            number: Text::from_str(alloc, self.number.as_str())?,
+        })
+    }
+}
+
+impl BookRow {
+    pub fn copy(&self, alloc: Global) -> Result<BookRow, Memory>
+        ensures { IfOk result (λ row. row ≡ self.now) }
+    {
+        match self {
+            BookRow::Free => Ok(BookRow::Free),
+            BookRow::Entry(entry) => Ok(BookRow::Entry(entry.copy(alloc)?)),
+            BookRow::Unreadable => Ok(BookRow::Unreadable),
+        }
+    }
+}
+
+/// A copy of a book.
+pub fn copy_book(alloc: Global, book: &Book) -> Result<Book, Memory>
+    ensures { IfOk result (λ copy. copy ≡ book.now) }
+{
+    let rows = book.as_slice();
+    let mut copy = Sequence::new(alloc);
+    for row in rows {
+        copy.push(row.copy(alloc)?)?;
+    }
+    Ok(copy)
+}

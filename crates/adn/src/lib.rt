@@ -6,7 +6,9 @@ mod book;
 mod edit;
 mod entry;
 mod number;
+mod update;
 
 pub use book::decode_book;
 pub use edit::{Edit, Plan, PlanError, RowUpdate};
-pub use entry::{AdnEntry, Book, BookRow};
+pub use entry::{AdnEntry, Book, BookRow, copy_book};
+pub use update::redecode;

@@ -37,6 +37,7 @@ target_is count (Some k) at e = target_step count k at (is_between 1 count k) re
 
 -- this is the edit's row, in a file whose rows have room for a number
 pub record IsRow (files : Files) (e : Edit) (at : ℕ) : Type 0 where
+  pub linear : is_linear files.main.kind ≡ true
   pub wide : nat_lt files.main.width 14 ≡ false
   pub target : target_of (book_of files) e ≡ Some at
   pub within : is_between 1 (length files.main.rows) at ≡ true
@@ -95,17 +96,23 @@ at_step : (e : Edit) (files : Files) (at : ℕ) (P : Plan → Type 0) → AtCase
 at_step (Clear stated) files at P cases = cases
 at_step (Set stated entry) files at P cases = name_step files entry at P cases (name_refusal (chars entry.name) (files.main.width - 14)) refl
 
-row_step : (e : Edit) (files : Files) (P : Plan → Type 0) → ((at : ℕ) → IsRow files e at → AtCases e files at P) → nat_lt files.main.width 14 ≡ false
+row_step : (e : Edit) (files : Files) (P : Plan → Type 0) → ((at : ℕ) → IsRow files e at → AtCases e files at P) → is_linear files.main.kind ≡ true → nat_lt files.main.width 14 ≡ false
     → (r : Result ℕ PlanError) → row_to_edit files.main files.ext e ≡ r → IfOk (r >>= plan_at files.main files.ext e) P
-row_step e files P cases wide (Err refusal) is = tt
-row_step e files P cases wide (Ok at) is =
+row_step e files P cases linear wide (Err refusal) is = tt
+row_step e files P cases linear wide (Ok at) is =
     let row = target_is (length files.main.rows) (target_of (book_of files) e) at is in
-    at_step e files at P (cases at (record { wide = wide; target = row.0; within = row.1 }))
+    at_step e files at P (cases at (record { linear = linear; wide = wide; target = row.0; within = row.1 }))
+
+not_not : (b : Bool) → not b ≡ false → b ≡ true
+not_not true e = refl
+not_not false e = absurd (cc)
 
 file_step : (e : Edit) (files : Files) (P : Plan → Type 0) → ((at : ℕ) → IsRow files e at → AtCases e files at P) → (b : Bool) → (not (is_linear files.main.kind) || nat_lt files.main.width 14) ≡ b
     → IfOk (let r : Result Plan PlanError = elim b [ true ↦ Err (BadFile files.main.width) | false ↦ (row_to_edit files.main files.ext e >>= plan_at files.main files.ext e) ] in r) P
 file_step e files P cases true is = tt
-file_step e files P cases false is = row_step e files P cases (or_parts (not (is_linear files.main.kind)) (nat_lt files.main.width 14) is).1 (row_to_edit files.main files.ext e) refl
+file_step e files P cases false is =
+    let parts = or_parts (not (is_linear files.main.kind)) (nat_lt files.main.width 14) is in
+    row_step e files P cases (not_not (is_linear files.main.kind) parts.0) parts.1 (row_to_edit files.main files.ext e) refl
 
 -- P of every plan of an edit
 pub plan_cases : (e : Edit) (files : Files) (P : Plan → Type 0) → ((at : ℕ) → IsRow files e at → AtCases e files at P) → IfOk (plan_edit e files.main files.ext) P

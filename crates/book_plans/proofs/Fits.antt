@@ -27,11 +27,12 @@ use Rattle.book_plans.proofs.Cases.{IsRow, CanWrite, AtCases, plan_cases, furthe
 
 -- a file that has an extension row of this number
 record HasExtension (ext : Content) (n : ℕ) : Type 0 where
+  linear : is_linear ext.kind ≡ true
   wide : 13 ≤ ext.width
   within : n ≤ length ext.rows
 
 extension_by : (ext : Content) (n : ℕ) → 1 ≤ n → (b : Bool) → (is_linear ext.kind && nat_le 13 ext.width) ≡ b → n ≤ length (cond b ext.rows []) → HasExtension ext n
-extension_by ext n first true is within = let wide = (and_parts (is_linear ext.kind) (nat_le 13 ext.width) is).1 in record { wide = grind (arith, nat_tests); within = within }
+extension_by ext n first true is within = let parts = and_parts (is_linear ext.kind) (nat_le 13 ext.width) is in let wide = parts.1 in record { linear = parts.0; wide = grind (arith, nat_tests); within = within }
 extension_by ext n first false is within = absurd (omega arith)
 
 has_extension : (ext : Content) (n : ℕ) → is_between 1 254 n ≡ true → n ≤ length (extension_rows ext) → HasExtension ext n
@@ -45,14 +46,14 @@ after_fits files at (Some m) e =
     let w = there.wide in
     let one : length {A = ℕ} (0x00 ∷ []) ≤ files.ext.width = omega arith in
     All-cons (Fits files) (update_of 1 m (released_bytes files.ext.width)) []
-    (record { first = (range_parts 1 254 m released.range).0; last = there.within; wide = filled_to_length (0x00 ∷ []) files.ext.width one }) (All-nil (Fits files))
+    (record { linear = there.linear; first = (range_parts 1 254 m released.range).0; last = there.within; wide = filled_to_length (0x00 ∷ []) files.ext.width one }) (All-nil (Fits files))
 
 filled_fits : (files : Files) (n : ℕ) (further : List ℕ) → IsFree files.main files.ext n → length further ≤ 10 → FitsFile files.ext (update_of 1 n (extension_bytes files.ext.width further))
 filled_fits files n further free short =
     let there = has_extension files.ext n free.range free.within in
     let w = there.wide in
     let all : length (0x02 ∷ length further ∷ further) ≤ files.ext.width = omega arith in
-    record { first = (range_parts 1 254 n free.range).0; last = there.within; wide = filled_to_length (0x02 ∷ length further ∷ further) files.ext.width all }
+    record { linear = there.linear; first = (range_parts 1 254 n free.range).0; last = there.within; wide = filled_to_length (0x02 ∷ length further ∷ further) files.ext.width all }
 
 -- ---- main rows
 
@@ -73,7 +74,7 @@ name_length main entry e =
 row_fits : (files : Files) (e : Edit) (at : ℕ) (bytes : List ℕ) → IsRow files e at → length bytes ≡ files.main.width → FitsFile files.main (update_of 0 at bytes)
 row_fits files e at bytes row wide =
     let range = range_parts 1 (length files.main.rows) at row.within in
-    record { first = range.0; last = range.1; wide = wide }
+    record { linear = row.linear; first = range.0; last = range.1; wide = wide }
 
 entry_fits : (files : Files) (e : Edit) (entry : AdnEntry) (at x : ℕ) → IsRow files e at → CanWrite files.main entry
     → FitsFile files.main (update_of 0 at (encode_name entry.name (files.main.width - 14) ++ number_bytes (has_plus entry.number) (take 10 (written_digits (without_plus entry.number))) x))

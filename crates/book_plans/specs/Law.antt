@@ -1,7 +1,7 @@
 -- What a plan does to a phonebook, update by update.
-use Rattle.std.specs.Prelude.{◌≡◌, ◌≤◌, ◌-◌, ◌==◌, ℕ, All, length, if◌then◌else◌, List, Option, Some, None, IfOk, ⊤}
+use Rattle.std.specs.Prelude.{◌≡◌, ◌≤◌, ◌-◌, ◌==◌, ℕ, All, true, length, if◌then◌else◌, List, Option, Some, None, IfOk, ⊤}
 use Rattle.std.specs.Str.{IsUtf8}
-use Rattle.fcp.specs.Content.{Content, with_row}
+use Rattle.fcp.specs.Content.{Content, is_linear, with_row}
 use Rattle.adn.specs.declared.entry.BookRow.{BookRow}
 use Rattle.adn.specs.declared.edit.Edit.{Edit}
 use Rattle.adn.specs.declared.edit.Edit.TheVariants.{Set, Clear}
@@ -43,8 +43,9 @@ HasText (Clear at) = ⊤
 abbrev pub PlansMakeEdits : Type 0
 PlansMakeEdits = (e : Edit) (files : Files) → HasText e → IfOk (plan_edit e files.main files.ext) (Makes files e)
 
--- the update writes a row that the file has, with as many bytes
+-- the file is linear, and the update writes a row that it has, with as many bytes
 pub record FitsFile (content : Content) (u : RowUpdate) : Type 0 where
+  pub linear : is_linear content.kind ≡ true
   pub first : 1 ≤ u.row
   pub last : u.row ≤ length content.rows
   pub wide : length u.bytes ≡ content.width

@@ -7,7 +7,7 @@ pub fn plans_make_edits()
     ensures { PlansMakeEdits }
 {}
 
-/// Each update of a plan writes a row that its file has, with as many bytes as the file's rows have.
+/// Each update of a plan writes a row that its file has, which is linear, with as many bytes as the file's rows have.
 pub fn plans_fit()
     ensures { PlansFit }
 {}

@@ -15,7 +15,7 @@ const UPDATE_RECORD: u8 = 0xDC;
 const ABSOLUTE: u8 = 0x04;
 
 // Those that begin with the deciding one.
-fn update_from_deciding(plan: &Plan, number: u8) -> Option<&RowUpdate>
+fn update_from_deciding(plan: &Plan, number: u64) -> Option<&RowUpdate>
     ensures { option_copied result
         ≡ slice_get (plan.now.deciding ∷ some_first plan.now.after []) number }
 {
@@ -26,7 +26,7 @@ fn update_from_deciding(plan: &Plan, number: u8) -> Option<&RowUpdate>
     }
 }
 
-fn update_of(plan: &Plan, number: u8) -> Option<&RowUpdate>
+fn update_of(plan: &Plan, number: u64) -> Option<&RowUpdate>
     ensures { option_copied result ≡ slice_get (plan_updates plan.now) number }
 {
     match &plan.before {

@@ -19,7 +19,7 @@ pub struct Attempt {
     /// The paths of the files that the plan stands on.
     pub paths: PathList,
     /// How many of its updates were sent.
-    pub sent: u8,
+    pub sent: u64,
     /// Somebody else has moved one of the paths since.
     pub moved: bool,
 }
@@ -120,7 +120,7 @@ impl Editing {
 
     /// The next update of the attempt was sent.
     pub fn send(&mut self)
-        requires { IfSome self.old.attempt (λ a. a.sent + 1 < 2 ^ 8) }
+        requires { IfSome self.old.attempt (λ a. a.sent + 1 < 2 ^ 64) }
         ensures { self.new ≡ spec.sent_update self.old }
     {
         if let Some(attempt) = &mut self.attempt {

@@ -3,6 +3,7 @@
 #![tactic(auto)]
 
 mod content;
+mod copies;
 mod decode;
 mod family_set;
 mod json;

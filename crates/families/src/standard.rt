@@ -1,14 +1,16 @@
 // The three families of a USIM.
-ghost use Rattle.std.specs.Prelude.{◌≡◌, ◌≤◌, ◌<◌, [], ◌∷◌, IfOk, length};
+ghost use Rattle.std.specs.Prelude.{◌≡◌, ◌≤◌, ◌<◌, [], ◌∷◌, IfOk, OnOk, OnErr, length};
 ghost use Rattle.fcp.specs.Content as file_content;
 ghost use Rattle.adn.specs.Book as phonebook;
+ghost use Rattle.adn.specs.Changed.{WasBook};
 ghost use Rattle.families.specs.Families as standard;
 ghost use Rattle.families.specs.Contents as spec;
 
+use crate::copies::Copies;
 use crate::decode::{ad_field, applications, iccid_field, imsi_field, spn_field};
 use crate::json::ToJson;
 use crate::{ContentText, Families, Records, StandardContent};
-use adn::{Book, decode_book};
+use adn::{Book, copy_book, decode_book, redecode};
 use apdu::{Memory, Path, Text};
 use arrayvec::ArrayVec;
 use fcp::{FileView, Rows};
@@ -150,6 +152,46 @@ impl ContentText for StandardContent {
         let value = self.to_json(alloc)?;
         Ok(Text::from_string(value.to_string(alloc)?))
     }
+
+    fn copy(&self, alloc: Global) -> Result<StandardContent, Memory> {
+        match self {
+            StandardContent::Records(records) => {
+                Ok(StandardContent::Records(records.copied(alloc)?))
+            }
+            StandardContent::Book(book) => Ok(StandardContent::Book(copy_book(alloc, book)?)),
+        }
+    }
+}
+
+// ---- behind an update of one row
+
+/// Makes a book that of its files behind an update of a row of one of them.
+fn patch_book<V: FileView>(
+    alloc: Global,
+    book: &mut Book,
+    view: &V,
+    main: [u16; 2],
+    extension: [u16; 2],
+    number: u8,
+    row: u8,
+) -> Result<(), Memory>
+    requires first { 1 ≤ row }
+    requires before { WasBook number row (spec.files_of (V.content view.now) main)
+        (spec.files_of (V.content view.now) extension) book.old }
+    ensures ok { OnOk result (book.new ≡ phonebook.decode_book
+        (spec.files_of (V.content view.now) main)
+        (spec.files_of (V.content view.now) extension)) }
+    ensures err { OnErr result (book.new ≡ book.old) }
+{
+    let missing = Rows::missing(alloc);
+    redecode(
+        alloc,
+        book,
+        file(view, &main, &missing),
+        file(view, &extension, &missing),
+        number,
+        row,
+    )
 }
 
 impl Families for Standard {
@@ -190,6 +232,24 @@ impl Families for Standard {
         view: &V,
     ) -> Result<StandardContent, Memory> {
         content(alloc, family, view)
+    }
+
+    fn patch<V: FileView>(
+        &self,
+        alloc: Global,
+        family: u8,
+        content: &mut StandardContent,
+        view: &V,
+        file: u8,
+        row: u8,
+    ) -> Result<(), Memory> {
+        match content {
+            StandardContent::Book(book) => match family {
+                PHONEBOOK => patch_book(alloc, book, view, ADN, EXT1, file, row),
+                _ => patch_book(alloc, book, view, FDN, EXT2, file, row),
+            },
+            StandardContent::Records(_) => Ok(()),
+        }
     }
 
     ghost shown_by_paths = { λ set. same_shown };

@@ -136,11 +136,14 @@ came k = is_some k.turn.outcome
 operation_given : (k : Kept) (a : ℕ) (job : Job) (b : Begun) (op : Operation) → is_served op ≡ true → Given (came k) (answer_of k a job b op)
 unfolding Given came
 operation_given k a job b (operation.Insert card) v = moved_given (came k) k.turn.happened
+operation_given k a job b operation.Out v = moved_given (came k) k.turn.happened
+operation_given k a job b (operation.Arm change) v = moved_given (came k) k.turn.happened
 operation_given k a job b (operation.Load f) v = card_given (came k) b.epoch b (or_else (loaded k.turn.published) (outcome_answer k.turn)) (loaded_given (came k) k.turn.published (outcome_answer k.turn) (outcome_given k.turn.outcome))
 operation_given k a job b (operation.OpenChannel handle aid) v = card_given (came k) b.epoch b (outcome_answer k.turn) (outcome_given k.turn.outcome)
 operation_given k a job b (operation.Raw handle apdu) v = raw_given (came k) handle (handle_of a handle k.handles) apdu.ins (outcome_answer k.turn) (outcome_given k.turn.outcome)
 operation_given k a job b (operation.Close handle) v = handle_given (came k) handle (handle_of a handle k.handles) (outcome_answer k.turn) (outcome_given k.turn.outcome)
 operation_given k a job b (operation.Verify key pin) v = card_given (came k) b.epoch b (outcome_answer k.turn) (outcome_given k.turn.outcome)
+operation_given k a job b operation.Poll v = card_given (came k) b.epoch b (outcome_answer k.turn) (outcome_given k.turn.outcome)
 operation_given k a job b (operation.End key) v = session_given (came k) (has_session a key k.sessions) key
 operation_given k a job b operation.Look v = plain (came k) (answer.Look (seen_now k)) (lit≤ tt) refl
 operation_given k a job b op v = absurd (true≢false (sym v))

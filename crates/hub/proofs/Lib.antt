@@ -1,7 +1,6 @@
 pub mod Scripts
 pub mod Ties
 pub mod Played
-pub mod Shown
 pub mod Follows
 pub mod Inside
 pub mod Lively

@@ -68,11 +68,14 @@ fits_op op h = refl
 edit_op : (o : Option Operation) → ServedOp o → is_edit o ≡ false
 edit_op None h = refl
 edit_op (Some (operation.Insert card)) h = refl
+edit_op (Some operation.Out) h = refl
+edit_op (Some (operation.Arm change)) h = refl
 edit_op (Some (operation.Load f)) h = refl
 edit_op (Some (operation.OpenChannel handle aid)) h = refl
 edit_op (Some (operation.Raw handle apdu)) h = refl
 edit_op (Some (operation.Close handle)) h = refl
 edit_op (Some (operation.Verify key pin)) h = refl
+edit_op (Some operation.Poll) h = refl
 edit_op (Some (operation.End key)) h = refl
 edit_op (Some operation.Look) h = refl
 edit_op (Some op) h = absurd (true≢false (sym h))

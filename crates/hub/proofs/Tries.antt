@@ -1,4 +1,4 @@
--- An event that is due is an insertion of one of the script's cards, for an operation that has begun.
+-- An event that is due names one of the script's cards or changes, and is for an operation that has begun.
 use Rattle.std.proofs.Common.{◌≡◌, ◌≤◌, ◌&&◌, ◌==◌, ℕ, zero, suc, Bool, true, false, if◌then◌else◌, nat_lt, nat_le, List, [], ◌∷◌, length, slice_get, slice_set, unwrap_or, Option, Some, None, IfSome, is_some, Err, option_map, refl, sym, ap, ◌∙◌, subst, true≢false, arith, eq-eqb}
 use Rattle.std.specs.Prelude.{option_and_then}
 use Rattle.std.specs.List.{list_all}
@@ -13,16 +13,15 @@ use Rattle.card_model.specs.declared.world.WorldEvent.{WorldEvent}
 use Rattle.card_model.specs.declared.world.WorldEvent.TheVariants as world_event
 use Rattle.card_model.specs.declared.slot.WorldRefusal.{WorldRefusal}
 use Rattle.card_model.specs.declared.slot.WorldRefusal.TheVariants as refusal
-use Rattle.card_model.specs.Slot.{insert_refusal, refusal_of, IsRefused, IsResultOf}
+use Rattle.card_model.specs.Slot.{arm_refusal, armed_count, insert_refusal, out_refusal, refusal_of, IsRefused, IsResultOf}
 use Rattle.card_model.specs.Step.{after_event, after_reset, armed_at, armed_card, armed_in, card_inside, inserted, on_card, reset_card, reset_in, step, step_of_card, step_of_place}
 use Rattle.channels.specs.Channels.{is_opening, on_channel, open_command}
 use Rattle.families.specs.Families.{family_paths}
 use Rattle.epoch_cache.specs.Cache.{first_missing}
-use Rattle.epoch_cache.specs.Past.{is_insertion}
 use Rattle.link.specs.declared.chain.Final.{Final}
 use Rattle.loader.specs.declared.reading.RefusedReading.{RefusedReading}
 use Rattle.refresher.specs.Refresh.{startup_command, fetch_command}
-use Rattle.script_reader.specs.World.{card_of}
+use Rattle.script_reader.specs.World.{card_of, change_of}
 use Rattle.script_reader.specs.declared.types.Script.{Script}
 use Rattle.script_reader.specs.declared.types.Operation.{Operation}
 use Rattle.script_reader.specs.declared.types.Operation.TheVariants as operation
@@ -52,7 +51,7 @@ use Rattle.rules.specs.Rules.{same_answer}
 use Rattle.rules.specs.State.{world_after, world_of}
 use Rattle.rules.specs.Channels.{handle_of, is_raw_ins}
 use Rattle.rules.specs.Sessions.{verify_command}
-use Rattle.rules.specs.Work.{first_item, is_starting, living_handle, read_stale, reads_first, sends_close, sends_raw, work_of_operation}
+use Rattle.rules.specs.Work.{first_item, is_starting, living_handle, read_stale, reads_first, sends_close, sends_raw, status_command, work_of_operation}
 use Rattle.performed.specs.Served.{is_served, serves}
 use Rattle.performed.specs.Followed.{are_followed, is_followed}
 use Rattle.performed.specs.Measure.{calls_left, is_begun}
@@ -71,11 +70,11 @@ use Rattle.hub.proofs.Follows.{answer-same}
 
 -- ---- what a turn tries
 
--- the event is an insertion of one of the script's cards
+-- the card that is inserted, or the change that is armed, is one of the script's
 fits : Script → WorldEvent → Bool
 fits s (world_event.Insert j) = nat_lt j (length s.cards)
-fits s world_event.Out = false
-fits s (world_event.Arm i) = false
+fits s world_event.Out = true
+fits s (world_event.Arm i) = nat_lt i (length s.changes)
 
 -- the event that the turn tries fits, and its actor has an operation that has begun
 record Tries (s : Script) (k : Kept) : Type 0 where
@@ -165,11 +164,14 @@ close_fits s (Some h) = tt
 operation_fits : (s : Script) (k : Kept) (a : ℕ) (b : Begun) (op : Operation) → is_served op ≡ true → has_target (length s.cards) (length s.changes) op ≡ true → work_fits s (work_of_operation k a b op).work
 unfolding work_fits fits
 operation_fits s k a b (operation.Insert card) v h = h
+operation_fits s k a b operation.Out v h = refl
+operation_fits s k a b (operation.Arm change) v h = h
 operation_fits s k a b (operation.Load f) v h = if_fits s (lives_in k.history b.epoch) (reads_first k.files (family_paths f)) (missing_fits s (first_missing k.files (family_paths f)))
 operation_fits s k a b (operation.OpenChannel handle aid) v h = if_fits s (lives_in k.history b.epoch) (sends open_command) tt
 operation_fits s k a b (operation.Raw handle apdu) v h = raw_fits s apdu (living_handle k (handle_of a handle k.handles))
 operation_fits s k a b (operation.Close handle) v h = close_fits s (living_handle k (handle_of a handle k.handles))
 operation_fits s k a b (operation.Verify key pin) v h = if_fits s (lives_in k.history b.epoch) (sends (verify_command key pin)) tt
+operation_fits s k a b operation.Poll v h = if_fits s (lives_in k.history b.epoch) (sends status_command) tt
 operation_fits s k a b (operation.End key) v h = tt
 operation_fits s k a b operation.Look v h = tt
 operation_fits s k a b op v h = absurd (true≢false (sym v))
@@ -326,20 +328,10 @@ tries_begun p a e t o h =
     ap (λ (x : Kept). is_some (begun_of a x.jobs)) t.kept
     ∙ ap (λ (x : Option ℕ). is_begun x k.jobs) (sym (ap (λ (x : Kept). x.turn.actor) (sym t.kept) ∙ o)) ∙ begun
 
-tries_card : (s : Script) (lines : List Line) (j : ℕ) → keeps_rules s ≡ true → serves s ≡ true → are_followed s lines ≡ true → due s (kept_of s lines) ≡ try_event (world_event.Insert j) → nat_lt j (length s.cards) ≡ true
-unfolding fits
-tries_card s lines j r v f h = (tries s lines r v f).event (world_event.Insert j) (says_of s (kept_of s lines) (try_event (world_event.Insert j)) h)
+tries_fits : (s : Script) (lines : List Line) (e : WorldEvent) → keeps_rules s ≡ true → serves s ≡ true → are_followed s lines ≡ true → due s (kept_of s lines) ≡ try_event e → fits s e ≡ true
+tries_fits s lines e r v f h = (tries s lines r v f).event e (says_of s (kept_of s lines) (try_event e) h)
 
-no_other : (s : Script) (lines : List Line) (e : WorldEvent) → keeps_rules s ≡ true → serves s ≡ true → are_followed s lines ≡ true → due s (kept_of s lines) ≡ try_event e → is_insertion e ≡ false → ⊥
-unfolding fits
-no_other s lines e r v f h n = other e ((tries s lines r v f).event e (says_of s (kept_of s lines) (try_event e) h)) n
-  where
-    other : (e : WorldEvent) → fits s e ≡ true → is_insertion e ≡ false → ⊥
-    other (world_event.Insert j) g n = true≢false n
-    other world_event.Out g n = true≢false (sym g)
-    other (world_event.Arm i) g n = true≢false (sym g)
-
--- ---- the cards stay
+-- ---- there are as many cards and changes as at first
 
 set_length : (xs : List CardState) (n : ℕ) (x : CardState) → length (slice_set xs n x) ≡ length xs
 set_length [] zero x = refl
@@ -403,11 +395,86 @@ same_cards : (s : Script) (lines : List Line) → length (world_of s lines).card
 same_cards s [] = length-map s.cards card_of
 same_cards s (l ∷ earlier) = line_cards l (world_of s earlier) ∙ same_cards s earlier
 
+step_changes : (w : World) (c : CommandValue) → (step w c).0.changes ≡ w.changes
+unfolding step
+step_changes w c = by w.inside
+  where
+    at : (j : ℕ) (o : Option CardState) → (step_of_card w j o c).0.changes ≡ w.changes
+    at j None = refl
+    at j (Some card) = refl
+
+    by : (o : Option ℕ) → (step_of_place w o c).0.changes ≡ w.changes
+    by None = refl
+    by (Some j) = at j (slice_get w.cards j)
+
+inserted_changes : (w : World) (j : ℕ) (o : Option CardState) → (inserted w j o).changes ≡ w.changes
+inserted_changes w j None = refl
+inserted_changes w j (Some card) = refl
+
+reset_changes : (w : World) → (after_reset w).changes ≡ w.changes
+unfolding after_reset
+reset_changes w = by w.inside
+  where
+    by : (o : Option ℕ) → (reset_in w o).changes ≡ w.changes
+    by None = refl
+    by (Some j) = inserted_changes w j (slice_get w.cards j)
+
+event_changes : (w : World) (e : WorldEvent) → (after_event w e).changes ≡ w.changes
+unfolding after_event
+event_changes w (world_event.Insert j) = inserted_changes w j (slice_get w.cards j)
+event_changes w world_event.Out = refl
+event_changes w (world_event.Arm i) = by w.inside
+  where
+    at : (j : ℕ) (o : Option CardState) → (armed_at w i j o).changes ≡ w.changes
+    at j None = refl
+    at j (Some card) = refl
+
+    by : (o : Option ℕ) → (armed_in w i o).changes ≡ w.changes
+    by None = refl
+    by (Some j) = at j (slice_get w.cards j)
+
+line_changes : (l : Line) (w : World) → (world_after l w).changes ≡ w.changes
+line_changes (line.Exchange a c r) w = step_changes w c
+line_changes (line.Failed a c true) w = step_changes w c
+line_changes (line.Failed a c false) w = refl
+line_changes (line.Reset a) w = reset_changes w
+line_changes (line.ResetFailed a) w = refl
+line_changes (line.World a e) w = event_changes w e
+line_changes (line.Turn a) w = refl
+line_changes (line.Begin a i) w = refl
+line_changes (line.Published n f e v text) w = refl
+line_changes (line.EpochEnd n e v) w = refl
+line_changes (line.Refused f n) w = refl
+line_changes (line.Answered a i given) w = refl
+
+same_changes : (s : Script) (lines : List Line) → length (world_of s lines).changes ≡ length s.changes
+same_changes s [] = length-map s.changes change_of
+same_changes s (l ∷ earlier) = ap length (line_changes l (world_of s earlier)) ∙ same_changes s earlier
+
 -- ---- the slot's refusal
 
-insert_told : (full : Bool) (j : ℕ) (r : WorldRefusal) → insert_refusal true full j ≡ Some r → is_some (answer_of_refusal r) ≡ true
-insert_told true j r h = let same : refusal.SlotFull ≡ r = cc in subst (λ (x : WorldRefusal). is_some (answer_of_refusal x) ≡ true) same refl
-insert_told false j r h = absurd (cc)
+-- a refusal that is an answer
+abbrev IsTold : Option WorldRefusal → Type 0
+IsTold refused = (r : WorldRefusal) → refused ≡ Some r → is_some (answer_of_refusal r) ≡ true
+
+told_as : (x : WorldRefusal) → is_some (answer_of_refusal x) ≡ true → IsTold (Some x)
+told_as x h r e = let same : x ≡ r = cc in subst (λ (y : WorldRefusal). is_some (answer_of_refusal y) ≡ true) same h
+
+insert_told : (full : Bool) (j : ℕ) → IsTold (insert_refusal true full j)
+insert_told true j = told_as refusal.SlotFull refl
+insert_told false j = λ r h. absurd (cc)
+
+out_told : (full : Bool) → IsTold (out_refusal full)
+out_told true = λ r h. absurd (cc)
+out_told false = told_as refusal.SlotEmpty refl
+
+room_told : (room : Bool) → IsTold (if room then None else Some refusal.ArmFull)
+room_told true = λ r h. absurd (cc)
+room_told false = told_as refusal.ArmFull refl
+
+arm_told : (armed : Option ℕ) (i : ℕ) → IsTold (arm_refusal true armed i)
+arm_told None i = told_as refusal.SlotEmpty refl
+arm_told (Some n) i = room_told (nat_lt n 64)
 
 given_told : (o : Option Answer) (given : Answer) → is_some o ≡ true → IfSome o (λ x. given ≡ x) → has_value (same_answer given) o ≡ true
 given_told None given h g = absurd (true≢false (sym h))
@@ -417,19 +484,27 @@ refused_as : (o : Option WorldRefusal) (r : WorldRefusal) → IsResultOf o (Err 
 refused_as None r h = absurd (cc)
 refused_as (Some x) r h = cc
 
-event_told : (s : Script) (lines : List Line) (e : WorldEvent) (r : WorldRefusal) (given : Answer) (x : World) → keeps_rules s ≡ true → serves s ≡ true → are_followed s lines ≡ true → x ≡ world_of s lines → due s (kept_of s lines) ≡ try_event e → refusal_of x e ≡ Some r → IfSome (answer_of_refusal r) (λ y. given ≡ y) → is_some (answer_of_refusal r) ≡ true
-event_told s lines (world_event.Insert j) r given x rules v f same h g y =
-    let valid : nat_lt j (length x.cards) ≡ true = ap (λ (z : World). nat_lt j (length z.cards)) same ∙ ap (nat_lt j) (same_cards s lines) ∙ tries_card s lines j rules v f h in
-    insert_told (is_some (card_inside x)) j r (ap (λ (b : Bool). insert_refusal b (is_some (card_inside x)) j) (sym valid) ∙ g)
-event_told s lines world_event.Out r given x rules v f same h g y = absurd (no_other s lines world_event.Out rules v f h refl)
-event_told s lines (world_event.Arm i) r given x rules v f same h g y = absurd (no_other s lines (world_event.Arm i) rules v f h refl)
+event_told : (s : Script) (lines : List Line) (e : WorldEvent) → keeps_rules s ≡ true → serves s ≡ true → are_followed s lines ≡ true → due s (kept_of s lines) ≡ try_event e → IsTold (refusal_of (world_of s lines) e)
+unfolding fits
+event_told s lines (world_event.Insert j) rules v f h =
+    let x : World = world_of s lines in
+    let valid : nat_lt j (length x.cards) ≡ true = ap (nat_lt j) (same_cards s lines) ∙ tries_fits s lines (world_event.Insert j) rules v f h in
+    subst (λ (b : Bool). IsTold (insert_refusal b (is_some (card_inside x)) j)) (sym valid) (insert_told (is_some (card_inside x)) j)
+event_told s lines world_event.Out rules v f h = out_told (is_some (card_inside (world_of s lines)))
+event_told s lines (world_event.Arm i) rules v f h =
+    let x : World = world_of s lines in
+    let valid : nat_lt i (length x.changes) ≡ true = ap (nat_lt i) (same_changes s lines) ∙ tries_fits s lines (world_event.Arm i) rules v f h in
+    subst (λ (b : Bool). IsTold (arm_refusal b (armed_count (card_inside x)) i)) (sym valid) (arm_told (armed_count (card_inside x)) i)
+
+told_now : (s : Script) (lines : List Line) (e : WorldEvent) (r : WorldRefusal) (x : World) → keeps_rules s ≡ true → serves s ≡ true → are_followed s lines ≡ true → x ≡ world_of s lines → due s (kept_of s lines) ≡ try_event e → refusal_of x e ≡ Some r → is_some (answer_of_refusal r) ≡ true
+told_now s lines e r x rules v f same h g = event_told s lines e rules v f h r (ap (λ (y : World). refusal_of y e) (sym same) ∙ g)
 
 refusal_by : (s : Script) (lines : List Line) (e : WorldEvent) (r : WorldRefusal) (given : Answer) (w : Option World) → keeps_rules s ≡ true → serves s ≡ true → are_followed s lines ≡ true → due s (kept_of s lines) ≡ try_event e → IfSome w (IsWorldOf s lines) → IsRefused w e (Err r) → IfSome (answer_of_refusal r) (λ y. given ≡ y) → IfSome w (λ x. is_refusal_told x given (Some e) ≡ true)
 refusal_by s lines e r given None rules v f h t g y = tt
 refusal_by s lines e r given (Some x) rules v f h t g y =
     let refused : refusal_of x e ≡ Some r = refused_as (refusal_of x e) r g in
     let answer : slot_answer_by x (Some e) ≡ answer_of_refusal r = ap (option_and_then answer_of_refusal) refused in
-    subst (λ (o : Option Answer). has_value (same_answer given) o ≡ true) (sym answer) (given_told (answer_of_refusal r) given (event_told s lines e r given x rules v f t.world h refused y) y)
+    subst (λ (o : Option Answer). has_value (same_answer given) o ≡ true) (sym answer) (given_told (answer_of_refusal r) given (told_now s lines e r x rules v f t.world h refused) y)
 
 pub refusal_told : (p : Parts) (e : WorldEvent) (r : WorldRefusal) (given : Answer) (v : Option World) → IsTied p → due p.script p.kept ≡ try_event e → v ≡ p.world → IsRefused p.world e (Err r) → IfSome (answer_of_refusal r) (λ y. given ≡ y) → IfSome v (λ x. is_refusal_told x given (tried_event p.kept) ≡ true)
 refusal_told p e r given v t h same g y =

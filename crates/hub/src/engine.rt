@@ -2,12 +2,12 @@
 
 use adn::{Edit, Plan, PlanError};
 use apdu::Memory;
+use content_tracker::ContentTracker;
 use epoch_cache::CachedFiles;
 use planner::EditPlans;
 use report::ReservedLines;
 use script::Script;
 use std::alloc::Global;
-use tracker::Tracker;
 
 /// A turn has so many lines at most, its mark among them.
 pub const LINES_OF_TURN: usize = 98;
@@ -25,7 +25,7 @@ pub struct Engine<S> {
     pub slot: S,
     pub script: Script,
     pub lines: ReservedLines,
-    pub tracker: Tracker,
+    pub tracker: ContentTracker,
 }
 
 /// No plan of an edit: scripts with edits are not served yet.

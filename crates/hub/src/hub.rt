@@ -1,5 +1,5 @@
 // What callers have of a hub.
-ghost use Rattle.std.specs.Prelude.{◌≡◌, ◌&&◌, ◌≤◌, ◌∷◌, [], not, true, false, IsSome, IfSome, IsErr, IfOk, OnOk, OnErr};
+ghost use Rattle.std.specs.Prelude.{◌≡◌, ◌&&◌, ◌≤◌, ◌∷◌, [], not, true, false, reverse, slice_get, IsSome, IfSome, IsErr, IfOk, OnOk, OnErr};
 ghost use Rattle.script_reader.specs.Rules.{keeps_rules};
 ghost use Rattle.script_reader.specs.World.{first_world};
 ghost use Rattle.report.specs.declared.line.Line.TheVariants as line;
@@ -15,12 +15,12 @@ use crate::engine::Engine;
 use crate::turn::Turn;
 use apdu::Memory;
 use card_model::ScriptedSlot;
+use content_tracker::ContentTracker;
 use performed::finished_runs_are_legal;
-use report::{Mode, Report, ReservedLines};
+use report::{Line, Mode, Report, ReservedLines};
 use script::Script;
 use std::alloc::Global;
 use std::marker::Model;
-use tracker::Tracker;
 
 /// A hub between the card of a slot and the actors of a script. Contracts see the script, the lines with the newest first, and the world
 /// and the planned faults where the slot tells them. Behind want of memory in mid-turn it is not whole, and answers nothing but that.
@@ -67,7 +67,7 @@ impl<S: ScriptedSlot + Drop> Hub<S> {
           whole = true;
         }) }
     {
-        let tracker = Tracker::new(alloc, &script)?;
+        let tracker = ContentTracker::new(alloc, &script)?;
         Ok(Hub {
             engine: Engine {
                 alloc,
@@ -107,6 +107,18 @@ impl<S: ScriptedSlot + Drop> Hub<S> {
         ensures { self.now.whole ≡ true → result ≡ (kept_now self.now).publications }
     {
         self.engine.tracker.kept().publications
+    }
+
+    /// A copy of the line of this index, counted from the first line.
+    pub fn line(&self, at: usize) -> Result<Option<Line>, Memory>
+        ensures { IfOk result (λ line. line ≡ slice_get (reverse self.now.lines) at) }
+    {
+        self.engine.lines.get(at)
+    }
+
+    /// How often the files of a family were decoded. A publication decodes nothing that is kept.
+    pub fn decodings(&self) -> u64 {
+        self.engine.tracker.decodings()
     }
 
     /// A turn of an actor; actor 0 is the framework. Want of memory before the turn's first event changes nothing; behind it the hub is

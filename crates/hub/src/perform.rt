@@ -1,5 +1,5 @@
 // The lines of a turn behind its mark: one function for each kind of line that may be due.
-ghost use Rattle.std.specs.Prelude.{◌≡◌, ◌==◌, ◌≤◌, ◌<◌, ◌+◌, length, true, false, is_some, None, IfSome, IfOk, OnOk, OnErr};
+ghost use Rattle.std.specs.Prelude.{◌≡◌, ◌==◌, ◌≤◌, ◌<◌, ◌+◌, ◌^◌, length, true, false, is_some, None, IfSome, IfOk, OnOk, OnErr};
 ghost use Rattle.apdu.specs.Words.{has_value};
 ghost use Rattle.std.specs.Option.{option_copied};
 ghost use Rattle.card_model.specs.Slot as slots;
@@ -11,6 +11,7 @@ ghost use Rattle.rules.specs.Due as rules;
 ghost use Rattle.rules.specs.Due.{answer_of_refusal, kept_text, tried_event};
 ghost use Rattle.rules.specs.Kept.{begun_of as begun_in};
 ghost use Rattle.rules.specs.declared.kept.Begun.{Begun};
+ghost use Rattle.rules.specs.Rules.{next_fault};
 ghost use Rattle.performed.specs.Followed.{is_given_or_refused, is_slot_answer};
 ghost use Rattle.performed.specs.Told.{is_refusal_told};
 ghost use Rattle.hub.specs.Parts.{parts};
@@ -18,7 +19,6 @@ ghost use Rattle.hub.specs.Performing.{is_holding, is_performed};
 ghost use Rattle.hub.specs.Settled.{BreaksBehind, HasOneMore, IsSince, IsUnderWay, KeepsAll, LeavesRoom, MayPublish, most_of_text};
 
 use crate::engine::{BYTES_OF_PUBLICATION, BYTES_OF_TURN, Engine, NoPlans};
-use crate::publish::text_of;
 use apdu::{Command, Memory, Text};
 use card_model::{Fault, ScriptedSlot, Slot, WorldEvent, WorldRefusal};
 use planner::{begun_of, decision_at_begin};
@@ -93,6 +93,14 @@ impl<S: ScriptedSlot> Engine<S> {
         self.lines.push_within(&Line::Refused { family, event });
     }
 
+    /// Whether the card acts where the next call fails.
+    fn next_acts(&self) -> bool
+        requires { self.now.tracker.history.calls + 1 < 2 ^ 64 }
+        ensures { result ≡ slots.acted_of (next_fault self.now.script self.now.tracker) }
+    {
+        acted_at(&self.script, self.tracker.kept().history.calls + 1)
+    }
+
     fn send(&mut self, actor: u8, from: u64, command: Command) -> Result<(), Memory>
         requires turn { IsUnderWay actor (parts S.Slot.world S.Slot.plan self.old) }
         requires since { IsSince from self.old.tracker }
@@ -115,11 +123,10 @@ impl<S: ScriptedSlot> Engine<S> {
                 Ok(())
             }
             Err(_) => {
-                let call = self.tracker.kept().history.calls + 1;
                 let line = Line::Failed {
                     actor,
                     command,
-                    acted: acted_at(&self.script, call),
+                    acted: self.next_acts(),
                 };
                 self.lines.push_within(&line);
                 self.tracker.fail(&self.script, &line);
@@ -280,7 +287,7 @@ impl<S: ScriptedSlot> Engine<S> {
         match ready {
             Some(text) => Ok(text),
             None => {
-                let text = text_of(self.alloc, family, self.tracker.kept())?;
+                let text = self.tracker.text(family)?;
                 let most = text
                     .as_str()
                     .len()

@@ -1,67 +1,14 @@
-// What a turn publishes before any event of its own, and the text of a family, from the files that are current.
-ghost use Rattle.std.specs.Prelude.{◌≡◌, ◌<◌, IfOk, option_map};
-ghost use Rattle.std.specs.Option.{option_copied};
-ghost use Rattle.epoch_cache.specs.Cache as cache;
-ghost use Rattle.families.specs.Contents.{family_count};
-ghost use Rattle.families.specs.Families.{shown};
-ghost use Rattle.rules.specs.Due.{kept_text};
+// What a turn publishes before any event of its own.
+ghost use Rattle.std.specs.Prelude.{◌≡◌};
 ghost use Rattle.rules.specs.Kept.{job_of};
 ghost use Rattle.hub.specs.Ready as ready;
 
-use apdu::{Memory, Path, Text};
 use editor::family_paths;
-use epoch_cache::{CachedFile, CachedFiles, all_current};
-use families::{ContentText, Families, Standard};
-use fcp::{FileView, Rows};
+use epoch_cache::all_current;
 use planner::{begun_of, operation_at};
 use rules::Kept;
 use script::{Operation, Script};
-use std::alloc::Global;
 use tracker::family_at;
-
-/// The files that are current.
-#[derive(Drop)]
-struct Current<'a> {
-    files: &'a CachedFiles,
-}
-
-fn is_of(ids: &[u16], file: &CachedFile) -> bool
-    ensures { result ≡ cache.is_of ids.now file.now }
-{
-    file.path.ids() == ids
-}
-
-// The file of these ids, where it is current.
-fn taken<'a>(ids: &[u16], files: &'a CachedFiles) -> Option<&'a CachedFile>
-    ensures { option_copied result ≡ cache.taken ids.now files.now }
-{
-    files.as_slice().iter().find(|file| is_of(ids, file))
-}
-
-impl FileView for Current<'_> {
-    ghost use Rattle.epoch_cache.specs.Places.{content_taken};
-
-    ghost content = { λ v path. content_taken path v.files.now };
-
-    fn rows(&self, path: &Path) -> Option<&Rows> {
-        match taken(path.ids(), self.files) {
-            None => None,
-            Some(file) => Some(&file.content),
-        }
-    }
-}
-
-/// The text that is shown of a family, as its files are kept.
-pub fn text_of(alloc: Global, family: u8, kept: &Kept) -> Result<Text, Memory>
-    requires { family < family_count }
-    ensures { IfOk result (λ text. text ≡ kept_text family kept.now) }
-{
-    let files = Current { files: &kept.files };
-    let content = Standard.decode(alloc, family, &files)?;
-    content.text(alloc)
-}
-
-// ---- before any event of a turn
 
 fn family_anew(script: &Script, kept: &Kept, actor: u8, op: u32) -> Option<u8>
     ensures { result ≡ ready.family_anew script.now kept.now actor op }

@@ -14,7 +14,7 @@ ghost use Rattle.hub.specs.Parts.{parts};
 ghost use Rattle.hub.specs.Settled.{HasBroken, HasLine, HasTurned, IsPrepared, IsSettled, IsTied, KeepsAll};
 
 use crate::engine::{BYTES_OF_PUBLICATION, BYTES_OF_TURN, Engine, LINES_OF_TURN, NoPlans};
-use crate::publish::{family_ready, text_of};
+use crate::publish::family_ready;
 use apdu::{Memory, Text};
 use card_model::ScriptedSlot;
 use planner::{decision_at_turn, due, has_ended, is_finished, waits_on};
@@ -81,14 +81,13 @@ impl<S: ScriptedSlot> Engine<S> {
         if self.lines.len() > MOST_LINES {
             return Err(Memory);
         }
-        let kept = self.tracker.kept();
-        match family_ready(&self.script, kept, actor) {
+        match family_ready(&self.script, self.tracker.kept(), actor) {
             None => {
                 self.lines.reserve(LINES_OF_TURN, BYTES_OF_TURN)?;
                 Ok(None)
             }
             Some(family) => {
-                let text = text_of(self.alloc, family, kept)?;
+                let text = self.tracker.text(family)?;
                 let most = text
                     .as_str()
                     .len()

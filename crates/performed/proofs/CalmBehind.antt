@@ -154,6 +154,14 @@ module _ (t : Turn) (chain : Option Chain) (k : Kept) (ns : List ℕ) where
   plain_state (Some a) (Some (operation.Close handle)) h right = absurd (true≢false h)
   plain_state (Some a) (Some op) h right = right
 
+  -- and back
+  pub plain_right : (o : Option ℕ) (op : Option Operation) → is_channel_op op ≡ false → StateOf t chain k ns o op → Right ns (held_in k)
+  plain_right None op h st = st
+  plain_right (Some a) None h st = st
+  plain_right (Some a) (Some (operation.OpenChannel handle aid)) h st = absurd (true≢false h)
+  plain_right (Some a) (Some (operation.Close handle)) h st = absurd (true≢false h)
+  plain_right (Some a) (Some op) h st = st
+
   module _ (u : Turn) (work : u.work ≡ t.work) (stage : u.stage ≡ t.stage) (opened : u.opened ≡ t.opened) (came : u.outcome ≡ t.outcome) where
     told_open : (aid more : List ℕ) → OpenPhase t chain aid more → OpenPhase u None aid more
     told_open aid more (open_rests m w st c n) = open_rests m (work ∙ w) (subst IsStill (sym stage) st) (came ∙ c) refl

@@ -11,7 +11,7 @@ use Rattle.card_model.specs.declared.world.World.{World}
 use Rattle.card_model.specs.declared.world.WorldEvent.{WorldEvent}
 use Rattle.card_model.specs.declared.world.WorldEvent.TheVariants.{Arm, Out, Insert}
 use Rattle.card_model.specs.Slot.{insert_refusal, refusal_of}
-use Rattle.card_model.specs.Step.{on_card, card_inside, step, step_of_card, step_of_place, reset_card, inserted, after_event, reset_in, after_reset}
+use Rattle.card_model.specs.Step.{armed_card, on_card, card_inside, step, step_of_card, step_of_place, reset_card, inserted, after_event, reset_in, after_reset}
 use Rattle.card_effects.specs.Numbers.{numbers}
 use Rattle.script_reader.specs.declared.types.Script.{Script}
 use Rattle.script_reader.specs.declared.types.Operation.{Operation}
@@ -22,7 +22,6 @@ use Rattle.report.specs.declared.line.Line.{Line}
 use Rattle.report.specs.declared.line.Line.TheVariants as line
 use Rattle.link.specs.declared.chain.Chain.{Chain}
 use Rattle.channels.specs.Channels.{same_channels}
-use Rattle.epoch_cache.specs.Past.{is_insertion}
 use Rattle.epoch_cache.specs.declared.past.Past.{Past}
 use Rattle.loader.specs.declared.reading.RefusedReading.{RefusedReading}
 use Rattle.rules.specs.declared.due.Due.{Due}
@@ -57,7 +56,8 @@ use Rattle.performed.proofs.CalmTurn.{held_in, OpenState, led_turn, led_chain, a
 use Rattle.performed.proofs.CalmOps.{keeps_begun, same_operation, begun_now, answered_now, comes_first, unsent}
 use Rattle.performed.proofs.CalmState.{StateOf, fresh_state, open_settled, open_told, close_told, close_settled, opened_right}
 use Rattle.performed.proofs.CalmKnown.{is_channel_op, Given, AllSince, Handles, behind_by, calls, goes_to_reset, Plain, Known}
-use Rattle.performed.proofs.CalmBehind.{actor_is, none_of_framework, same_in, exchange_actor, known_of, plain_state, told_state, over_state, close_moved}
+use Rattle.performed.proofs.CalmBehind.{actor_is, none_of_framework, same_in, exchange_actor, known_of, plain_state, plain_right, told_state, over_state, close_moved}
+use Rattle.performed.proofs.EpochWorld.{arms}
 
 -- ---- the card in the slot
 
@@ -459,10 +459,24 @@ module _ (s : Script) (w : World) (k : Kept) (g : Given s k) (known : Known s k)
       let right : Right (numbers at.card) (held_in behind) = basic_right (numbers at.card) (held_in behind) at.basic (none_held behind.history k.history.epoch behind.handles epoch hs.since) in
       record { card = at.card; inside = at.inside; state = plain_state behind.turn behind.chain behind (numbers at.card) behind.turn.actor (turn_operation s behind) op right }
 
-  event_lives : (a : ℕ) (x : WorldEvent) → is_insertion x ≡ true → is_followed s k (line.World a x) ≡ true → is_none (refusal_of w x) ≡ true → Next (line.World a x)
-  event_lives a (Insert j) i h told living = begins_epoch_lives (line.World a (Insert j)) h refl refl refl (unlike_event a (Insert j) h) (insert_holds w j told)
-  event_lives a Out i h told living = dead i
-  event_lives a (Arm j) i h told living = dead i
+  -- a change is armed on the card
+  armed_lives : (a j : ℕ) → is_followed s k (line.World a (Arm j)) ≡ true → Next (line.World a (Arm j))
+  armed_lives a j h living =
+      let x = lives living in
+      let l : Line = line.World a (Arm j) in
+      let behind : Kept = kept_after s l k in
+      let none : is_channel_op (turn_operation s k) ≡ false = unlike_event a (Arm j) h in
+      let right : Right (numbers x.card) (held_in k) = plain_right k.turn k.chain k (numbers x.card) k.turn.actor (turn_operation s k) none x.state in
+      record {
+        card = armed_card j x.card;
+        inside = arms w j x.card x.inside;
+        state = plain_state behind.turn behind.chain behind (numbers x.card) behind.turn.actor (turn_operation s behind) (ap is_channel_op (same_in s k l refl k.turn.actor) ∙ none) right;
+      }
+
+  event_lives : (a : ℕ) (x : WorldEvent) → is_followed s k (line.World a x) ≡ true → is_none (refusal_of w x) ≡ true → Next (line.World a x)
+  event_lives a (Insert j) h told living = begins_epoch_lives (line.World a (Insert j)) h refl refl refl (unlike_event a (Insert j) h) (insert_holds w j told)
+  event_lives a Out h told living = dead living
+  event_lives a (Arm j) h told living = armed_lives a j h living
 
   pub line_lives : (l : Line) → is_followed s k l ≡ true → is_told s w k l ≡ true → Next l
   line_lives (line.Turn a) h told = turn_lives a h
@@ -471,7 +485,7 @@ module _ (s : Script) (w : World) (k : Kept) (g : Given s k) (known : Known s k)
   line_lives (line.Failed a c d) h told = λ living. dead living
   line_lives (line.Reset a) h told = λ living. begins_epoch_lives (line.Reset a) h refl refl refl (unlike_reset a h) (reset_holds w (done_there s w k told))
   line_lives (line.ResetFailed a) h told = λ living. dead living
-  line_lives (line.World a e) h told = event_lives a e (g.insertion a e h) h told
+  line_lives (line.World a e) h told = event_lives a e h told
   line_lives (line.Published n f e v text) h told = λ living.
       let x = lives living in
       let l : Line = line.Published n f e v text in

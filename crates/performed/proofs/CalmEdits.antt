@@ -33,7 +33,8 @@ use Rattle.performed.proofs.CalmLent.{given_of}
 use Rattle.performed.proofs.CalmKinds.{Sends}
 use Rattle.rules.specs.declared.holdings.Handle.{Handle}
 use Rattle.rules.specs.Sessions.{has_session}
-use Rattle.performed.proofs.CalmSends.{ServedOp, served_now, exchange_kind, failed_kind, kind_update, sends_of}
+use Rattle.performed.proofs.CalmSends.{ServedOp, served_now, exchange_kind, failed_kind, kind_update}
+use Rattle.performed.proofs.CalmLines.{sends_of, raw_alone}
 
 -- ---- answers
 
@@ -94,11 +95,14 @@ raw_undone handle (Some x) ins other h = undone_if (is_raw_ins ins) (with_ended 
 
 answer_undone : (k : Kept) (actor : ℕ) (job : Job) (b : Begun) (op : Operation) → is_served op ≡ true → Undone (answer_of k actor job b op)
 answer_undone k actor job b (operation.Insert card) h = moved_undone k.turn.happened
+answer_undone k actor job b operation.Out h = moved_undone k.turn.happened
+answer_undone k actor job b (operation.Arm change) h = moved_undone k.turn.happened
 answer_undone k actor job b (operation.Load f) h = card_undone b.epoch b (or_else (loaded k.turn.published) (outcome_answer k.turn)) (else_undone (loaded k.turn.published) (outcome_answer k.turn) (loaded_undone k.turn.published) (came_undone k.turn.outcome))
 answer_undone k actor job b (operation.OpenChannel handle aid) h = card_undone b.epoch b (outcome_answer k.turn) (came_undone k.turn.outcome)
 answer_undone k actor job b (operation.Raw handle apdu) h = raw_undone handle (handle_of actor handle k.handles) apdu.ins (outcome_answer k.turn) (came_undone k.turn.outcome)
 answer_undone k actor job b (operation.Close handle) h = handle_undone handle (handle_of actor handle k.handles) (outcome_answer k.turn) (came_undone k.turn.outcome)
 answer_undone k actor job b (operation.Verify key pin) h = card_undone b.epoch b (outcome_answer k.turn) (came_undone k.turn.outcome)
+answer_undone k actor job b operation.Poll h = card_undone b.epoch b (outcome_answer k.turn) (came_undone k.turn.outcome)
 answer_undone k actor job b (operation.End key) h = undone_if (has_session actor key k.sessions) (Some answer.Ended) (Some (answer.NotHeldKey key)) refl refl
 answer_undone k actor job b operation.Look h = refl
 answer_undone k actor job b op h = absurd (true≢false (sym h))
@@ -138,8 +142,8 @@ answered_edit s w k a i (answer.Done n published left) served h = absurd (done_n
 answered_edit s w k a i given served h = refl
 
 line_edit : (s : Script) (w : World) (k : Kept) (l : Line) → serves s ≡ true → Sends s k → is_followed s k l ≡ true → has_right_edit s w k l ≡ true
-line_edit s w k (line.Exchange a c r) served t h = edit_by (is_update_ins c.ins) (has_value is_raw (turn_operation s k)) (is_update_right s w k c r) (kind_update s k c (exchange_kind s k a c r t h))
-line_edit s w k (line.Failed a c d) served t h = edit_by (is_update_ins c.ins) (has_value is_raw (turn_operation s k)) (is_lost_update_right s w (world_failed w c d) k c) (kind_update s k c (failed_kind s k a c d t h))
+line_edit s w k (line.Exchange a c r) served t h = edit_by (is_update_ins c.ins) (has_value is_raw (turn_operation s k)) (is_update_right s w k c r) (λ u. raw_alone s k c served (kind_update s k c (exchange_kind s k a c r t h) u))
+line_edit s w k (line.Failed a c d) served t h = edit_by (is_update_ins c.ins) (has_value is_raw (turn_operation s k)) (is_lost_update_right s w (world_failed w c d) k c) (λ u. raw_alone s k c served (kind_update s k c (failed_kind s k a c d t h) u))
 line_edit s w k (line.Answered a i given) served t h = answered_edit s w k a i given served h
 line_edit s w k (line.Turn a) served t h = refl
 line_edit s w k (line.Begin a i) served t h = refl

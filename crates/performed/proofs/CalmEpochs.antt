@@ -42,7 +42,8 @@ use Rattle.performed.specs.Followed.{is_tried, is_followed, are_followed}
 use Rattle.performed.proofs.CalmBehind.{actor_is, none_of_framework}
 use Rattle.performed.proofs.CalmKinds.{SendsFirst, WorkFits, Sends}
 use Rattle.performed.proofs.CalmOps.{same_operation}
-use Rattle.performed.proofs.CalmSends.{raw_other, sends_of, turn_by, exchanged_actor}
+use Rattle.performed.proofs.CalmSends.{raw_other}
+use Rattle.performed.proofs.CalmLines.{sends_of, turn_by, exchanged_actor}
 use Rattle.performed.proofs.CalmState.{OpensAlive}
 use Rattle.performed.proofs.LegalResets.{CalmTurn, turn_calm, resets_framework}
 use Rattle.performed.proofs.MeasureSays.{stands_of}
@@ -153,6 +154,7 @@ first_opens alive handles actor (Some (operation.OpenChannel handle aid)) h = re
 first_opens alive handles actor (Some (operation.Raw handle apdu)) h = absurd (raw_other manage_channel_ins apdu.ins refl h.allowed (ap (λ (c : CommandValue). c.ins == manage_channel_ins) (sym h.is)))
 first_opens alive handles actor (Some (operation.Close handle)) h = absurd (true≢false (ap (λ (c : CommandValue). c.p1 == 0) h.is))
 first_opens alive handles actor (Some (operation.Verify key pin)) h = absurd (true≢false (ap (λ (c : CommandValue). c.ins == verify_ins) (sym h)))
+first_opens alive handles actor (Some operation.Poll) h = absurd (true≢false (ap (λ (c : CommandValue). c.ins == manage_channel_ins) h))
 first_opens alive handles actor (Some op) h = absurd h
 
 -- the turn's command is that of an open

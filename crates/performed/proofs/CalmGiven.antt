@@ -1,5 +1,5 @@
--- What the rule of channels takes: the operations that send a MANAGE CHANNEL, events that are insertions, references that are free where a
--- channel is opened under them, and the epoch of an open.
+-- What the rule of channels takes: the operations that send a MANAGE CHANNEL, references that are free where a channel is opened under them,
+-- and the epoch of an open.
 use Rattle.std.proofs.Common.{◌≡◌, ℕ, ◌==◌, Bool, true, false, refl, sym, ap, ◌∙◌, true≢false}
 use Rattle.apdu.specs.Values.{CommandValue, ResponseValue}
 use Rattle.apdu.specs.Apdu.{manage_channel_ins}
@@ -15,7 +15,8 @@ use Rattle.performed.proofs.CalmCards.{GivenOf}
 use Rattle.performed.proofs.CalmEpochs.{alive_of}
 use Rattle.performed.proofs.CalmKinds.{Sends, Manages, by_open, by_refusal, by_close}
 use Rattle.performed.proofs.CalmKnown.{is_channel_op}
-use Rattle.performed.proofs.CalmSends.{exchange_manages, sends_of, world_insertion}
+use Rattle.performed.proofs.CalmSends.{exchange_manages}
+use Rattle.performed.proofs.CalmLines.{sends_of}
 use Rattle.performed.proofs.FreeReferences.{free_of}
 
 -- a MANAGE CHANNEL is that of an open or a close
@@ -37,7 +38,6 @@ given_of s rules served lines followed =
     let t : Sends s k = sends_of s lines served followed in
     record {
       manage = λ a c r h other. no_manage s k t a c r h other;
-      insertion = λ a e h. world_insertion s k a e t h;
       free = λ a i handle n aid h op. free_of s rules served lines followed a i handle n aid h op;
       alive = alive_of s lines rules served followed;
     }

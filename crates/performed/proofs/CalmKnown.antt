@@ -3,7 +3,6 @@ use Rattle.std.proofs.Common.{◌≡◌, ◌≤◌, ℕ, ◌==◌, ◌&&◌, not
 use Rattle.std.specs.Prelude.{option_map, filter}
 use Rattle.apdu.specs.Values.{CommandValue, ResponseValue}
 use Rattle.apdu.specs.Apdu.{manage_channel_ins, select_ins, is_success}
-use Rattle.card_model.specs.declared.world.WorldEvent.{WorldEvent}
 use Rattle.refresh_cmd.specs.Values.{ProactiveValue}
 use Rattle.script_reader.specs.declared.types.Script.{Script}
 use Rattle.script_reader.specs.declared.types.Operation.{Operation}
@@ -14,7 +13,7 @@ use Rattle.report.specs.declared.line.Line.{Line}
 use Rattle.report.specs.declared.line.Line.TheVariants as line
 use Rattle.link.specs.declared.chain.Final.{Final}
 use Rattle.channels.specs.Channels.{open_command, close_command, select_application, is_opening}
-use Rattle.epoch_cache.specs.Past.{is_insertion, counted}
+use Rattle.epoch_cache.specs.Past.{counted}
 use Rattle.loader.specs.declared.reading.RefusedReading.{RefusedReading}
 use Rattle.rules.specs.declared.holdings.Handle.{Handle}
 use Rattle.rules.specs.declared.kept.Begun.{Begun}
@@ -44,7 +43,6 @@ is_channel_op op = false
 pub record Given (s : Script) (k : Kept) : Type 0 where
   -- no other operation sends a MANAGE CHANNEL
   pub manage : (a : ℕ) (c : CommandValue) (r : ResponseValue) → is_followed s k (line.Exchange a c r) ≡ true → is_channel_op (turn_operation s k) ≡ false → (c.ins == manage_channel_ins) ≡ false
-  pub insertion : (a : ℕ) (e : WorldEvent) → is_followed s k (line.World a e) ≡ true → is_insertion e ≡ true
   -- a channel is opened under a reference that names none
   pub free : (a i handle n : ℕ) (aid : List ℕ) → is_followed s k (line.Answered a i (answer.Opened n)) ≡ true → operation_at s a i ≡ Some (operation.OpenChannel handle aid) → handle_of a handle k.handles ≡ None
   pub alive : OpensAlive k

@@ -1,54 +1,68 @@
--- Over a script that is served the board shows of each family what the card shows, or the family is stale, or a reading of it was refused
--- that began behind the last change: an application's UPDATE alone changes what a card shows, and makes each wanted family stale.
+-- Over a script that is served, while an epoch lives and no reset is due, the board shows of each family what the card shows, or the family is
+-- stale, or a reading of it was refused that began behind the last change: an application's UPDATE makes each wanted family stale, and a FETCH
+-- those whose files its change touches, or the card is reset. Without a living epoch the board shows nothing, once its end is told.
 use Rattle.std.proofs.Common.{◌≡◌, ◌⊎◌, inl, inr, ◌≤◌, ◌<◌, ℕ, zero, suc, ◌+◌, ◌-◌, ◌==◌, ◌&&◌, ◌||◌, Bool, true, false, if◌then◌else◌, Option, Some, None, List, [], ◌∷◌, map, refl, ap, sym, ◌∙◌, subst, arith, true≢false}
-use Rattle.std.specs.Prelude.{slice_get, unwrap_or, option_map, find, is_some, is_none, not, nat_lt, max}
+use Rattle.std.specs.Prelude.{slice_get, unwrap_or, option_map, find, is_some, not, nat_le, nat_lt, max}
 use Rattle.std.specs.List.{list_all, list_any}
-use Rattle.std.proofs.lemmas.Bool.{and_parts, and_from, eqb-true, ltb-true, ltb-false}
+use Rattle.std.proofs.lemmas.Bool.{and_parts, and_from, eqb-true, ltb-true, ltb-false, or_cases}
 use Rattle.apdu.specs.Values.{CommandValue, ResponseValue}
 use Rattle.apdu.specs.Words.{has_value, is_one_of, same_bytes}
-use Rattle.apdu.specs.Apdu.{is_update_ins, is_success}
+use Rattle.apdu.specs.Apdu.{fetch_ins, is_update_ins, is_success}
+use Rattle.refresh_cmd.specs.Values.{ProactiveValue}
+use Rattle.refresh_cmd.specs.Proactive.{read_proactive}
 use Rattle.card_model.specs.declared.world.World.{World}
 use Rattle.card_model.specs.declared.world.WorldEvent.{WorldEvent}
 use Rattle.card_model.specs.declared.world.WorldEvent.TheVariants.{Arm, Out, Insert}
-use Rattle.card_model.specs.Slot.{refusal_of}
-use Rattle.card_model.specs.Step.{card_inside}
 use Rattle.card_effects.proofs.Same.{same_bytes_is}
 use Rattle.script_reader.specs.declared.types.Script.{Script}
 use Rattle.script_reader.specs.Rules.{keeps_rules}
+use Rattle.report.specs.declared.answer.Answer.{Answer}
 use Rattle.report.specs.declared.line.Line.{Line}
 use Rattle.report.specs.declared.line.Line.TheVariants as line
 use Rattle.families.specs.Families.{all_families, family_paths, iccid_path, imsi_path, ad_path, spn_path, msisdn_path, ext5_path, dir_path, adn_path, ext1_path, fdn_path, ext2_path}
 use Rattle.epoch_cache.specs.declared.cached.Touch.{Touch}
 use Rattle.epoch_cache.specs.declared.cached.Written.TheVariants as written
-use Rattle.epoch_cache.specs.Cache.{handed_refresh, is_refreshed, is_update, is_row_update, is_raw_write, touch_exchanged, is_renewed, renews_one}
-use Rattle.epoch_cache.specs.Past.{is_insertion}
+use Rattle.epoch_cache.specs.declared.cached.Written.{Written}
+use Rattle.epoch_cache.specs.Cache.{asks_reset, handed_refresh, is_moved_by, is_overwritten, is_refreshed, is_spoiled, is_update, is_row_update, is_raw_write, refresh_of, touch_exchanged, is_renewed, renews_one, written_by}
+use Rattle.link.specs.Commands.{chain_first}
 use Rattle.loader.specs.declared.reading.RefusedReading.{RefusedReading}
 use Rattle.rules.specs.declared.due.Due.{Due}
-use Rattle.rules.specs.declared.due.Due.TheVariants.{Publish as publish}
+use Rattle.rules.specs.declared.due.Due.TheVariants.{TryEvent as try_event, Publish as publish, Give as give}
 use Rattle.rules.specs.declared.kept.Kept.{Kept}
+use Rattle.rules.specs.declared.kept.Stage.{Stage}
+use Rattle.rules.specs.declared.kept.Stage.TheVariants.{Fresh as fresh_stage, Next as next, Resetting as resetting, Over as over}
+use Rattle.rules.specs.declared.kept.Work.{Work}
 use Rattle.rules.specs.declared.standing.Standing.{Standing}
 use Rattle.rules.specs.LookingBack.{is_wanted}
 use Rattle.rules.specs.Standing.{first_standing, settled_by, unless_settled, latest, shown_behind, standing_by, standing_after, refused_in, is_stale, first_stale}
-use Rattle.rules.specs.After.{is_raw_line, facts_of, refused_of, jobs_beside, family_begun, kept_of}
-use Rattle.rules.specs.Due.{due, kept_text}
+use Rattle.rules.specs.After.{is_raw, is_raw_line, facts_of, refused_of, jobs_beside, family_begun, kept_after, kept_of}
+use Rattle.rules.specs.Kept.{actor_count, begun_of}
+use Rattle.rules.specs.Due.{due, is_reset_due, kept_text, reset_by_stage}
 use Rattle.rules.specs.Performed.{ends_turn, is_published}
-use Rattle.rules.specs.Work.{has_begun, has_work, has_work_alive, is_quiet, is_starting}
-use Rattle.rules.specs.Rules.{has_right_response, has_right_fault, is_refusal_known, is_shown_right, is_standing_right, is_rest_right}
+use Rattle.rules.specs.Work.{has_begun, has_work, has_work_alive, is_finished, is_quiet, is_starting}
+use Rattle.rules.specs.Rules.{is_turn_of, is_begun_at, has_right_response, has_right_fault, is_refusal_known, is_shown_right, is_standing_right, is_rest_right}
 use Rattle.rules.specs.State.{shown_in, same_shown, text_of, texts_of, world_after, world_of, state_of}
 use Rattle.rules.specs.Laws.{ShowsCard}
 use Rattle.rules.specs.Legal.{changed_in}
 use Rattle.rules.specs.Agreement.{are_responses_right}
 use Rattle.performed.specs.Served.{serves}
-use Rattle.performed.specs.Followed.{is_followed, are_followed}
+use Rattle.performed.specs.Followed.{is_given_or_refused, is_tried, is_followed, are_followed}
 use Rattle.performed.specs.Told.{is_told, are_told}
 use Rattle.performed.proofs.CalmLent.{state_world, state_kept, state_texts}
-use Rattle.performed.proofs.CalmSends.{exchange_update, world_insertion, sends_of}
-use Rattle.performed.proofs.CalmCards.{dead, insert_empty}
-use Rattle.performed.proofs.LegalWorld.{lives_inside}
+use Rattle.performed.proofs.CalmSends.{exchange_update}
+use Rattle.performed.proofs.CalmLines.{sends_of, turn_is, raw_alone}
+use Rattle.performed.proofs.CalmCards.{dead}
+use Rattle.performed.proofs.CalmKnown.{goes_to_reset}
+use Rattle.performed.proofs.CalmTurn.{final_success}
+use Rattle.performed.proofs.MeasureShape.{IsFirstOf, exchange_next, shape}
+use Rattle.performed.proofs.TurnsSays.{IsDone, turn_done}
+use Rattle.performed.proofs.EpochLives.{AllHidden, comes_last, hidden_of, lively, none_resets, sent_lives}
+use Rattle.performed.proofs.EpochFetch.{fetch_resets, fetches_first}
+use Rattle.performed.proofs.EpochWorld.{arm_shown}
+use Rattle.rules.proofs.Stays.{stays_shown}
 use Rattle.performed.proofs.TurnsKept.{quiet_touch}
 use Rattle.performed.proofs.TurnsPhase.{publishes}
 use Rattle.performed.proofs.WantedFamilies.{or_later, or_now, IsWanted, AreWanted, standings_wanted, turn_wants}
-use Rattle.performed.proofs.CalmShown.{unarmed_of, step_shown, step_inside, reset_some, never_failed, some_shown}
 use Rattle.performed.proofs.LastChange.{changed_upto, changed_same}
 
 -- ---- what the board shows
@@ -59,6 +73,8 @@ record Seen : Type 0 where
   count : ℕ
   texts : List (List ℕ)
   changed : ℕ → ℕ
+  -- an epoch lives, and no reset is due in its turn
+  holds : Bool
 
 -- a publication that the card still shows, one of a family that is stale since its last renewal, or one of a family of which a later
 -- reading was refused
@@ -70,8 +86,7 @@ data IsKnown (b : Seen) (st : Standing) (n : ℕ) : Type 0 where
 record IsTrue (b : Seen) (st : Standing) (n : ℕ) : Type 0 where
   upto : n ≤ b.count
   wanted : st.wanted ≡ true
-  inside : is_some (card_inside b.world) ≡ true
-  known : IsKnown b st n
+  known : b.holds ≡ true → IsKnown b st n
 
 abbrev IsShown : Seen → Standing → Option ℕ → Type 0
 IsShown b st None = Unit {0}
@@ -173,28 +188,35 @@ to_more count = omega arith
 
 -- ---- a standing behind a line
 
-module _ (b v : Seen) (l : Line) (event : ℕ) (now begun : Option ℕ) (st : Standing) (count : b.count ≤ v.count) (inside : is_some (card_inside b.world) ≡ true → is_some (card_inside v.world) ≡ true) where
+module _ (b v : Seen) (l : Line) (event : ℕ) (now begun : Option ℕ) (st : Standing) (count : b.count ≤ v.count) where
   upto_later : (n : ℕ) → n ≤ b.count → n ≤ v.count
   upto_later n h = omega (arith, h, count)
 
   -- the card shows the same
-  shown_still : (renews : Bool) → settled_by st.family l now ≡ now → shown_in v.world st.family ≡ shown_in b.world st.family → ((n : ℕ) → n ≤ b.count → text_of v.count n v.texts ≡ text_of b.count n b.texts) → v.changed st.family ≡ b.changed st.family → b.changed st.family ≤ event → (o : Option ℕ) → IsShown b st o → IsShown v (standing_by l event renews now begun st) o
-  shown_still renews none shows text changed past None t = tt
-  shown_still renews none shows text changed past (Some n) t = record {
+  shown_still : (renews : Bool) → (v.holds ≡ true → b.holds ≡ true) → settled_by st.family l now ≡ now → shown_in v.world st.family ≡ shown_in b.world st.family → ((n : ℕ) → n ≤ b.count → text_of v.count n v.texts ≡ text_of b.count n b.texts) → v.changed st.family ≡ b.changed st.family → b.changed st.family ≤ event → (o : Option ℕ) → IsShown b st o → IsShown v (standing_by l event renews now begun st) o
+  shown_still renews held none shows text changed past None t = tt
+  shown_still renews held none shows text changed past (Some n) t = record {
     upto = upto_later n t.upto;
     wanted = or_now st.wanted (has_value (λ f. f == st.family) begun) t.wanted;
-    inside = inside t.inside;
-    known = goes_known v l event now begun st n renews none (subst (λ (m : ℕ). m ≤ event) (sym changed) past) (known_by b v st n shows (text n t.upto) changed t.known);
+    known = λ h. goes_known v l event now begun st n renews none (subst (λ (m : ℕ). m ≤ event) (sym changed) past) (known_by b v st n shows (text n t.upto) changed (t.known (held h)));
   }
 
-  -- each wanted family is renewed
+  -- the family is renewed, where it is wanted
   shown_renewed : (renews : Bool) → (st.wanted ≡ true → renews ≡ true) → v.changed st.family ≤ event → (o : Option ℕ) → IsShown b st o → IsShown v (standing_by l event renews now begun st) o
   shown_renewed renews all past None t = tt
   shown_renewed renews all past (Some n) t = record {
     upto = upto_later n t.upto;
     wanted = or_now st.wanted (has_value (λ f. f == st.family) begun) t.wanted;
-    inside = inside t.inside;
-    known = subst (λ (x : Bool). IsKnown v (standing_by l event x now begun st) n) (sym (all t.wanted)) (renewed_known v l event now begun st n past);
+    known = λ h. subst (λ (x : Bool). IsKnown v (standing_by l event x now begun st) n) (sym (all t.wanted)) (renewed_known v l event now begun st n past);
+  }
+
+  -- no epoch lives behind the line, or a reset is due
+  shown_past : (renews : Bool) → v.holds ≡ false → (o : Option ℕ) → IsShown b st o → IsShown v (standing_by l event renews now begun st) o
+  shown_past renews past None t = tt
+  shown_past renews past (Some n) t = record {
+    upto = upto_later n t.upto;
+    wanted = or_now st.wanted (has_value (λ f. f == st.family) begun) t.wanted;
+    known = λ h. absurd (true≢false (sym h ∙ past));
   }
 
 -- a line that renews every path makes each family stale
@@ -234,7 +256,7 @@ module _ (shows : ShowsCard) (s : Script) (earlier : List Line) (rules : keeps_r
 
 -- ---- the answers of the card
 
-told_response : (s : Script) (w : World) (k : Kept) (l : Line) → is_told s w k l ≡ true → has_right_response w l ≡ true
+pub told_response : (s : Script) (w : World) (k : Kept) (l : Line) → is_told s w k l ≡ true → has_right_response w l ≡ true
 told_response s w k (line.Exchange a c r) h = (and_parts (has_right_response w (line.Exchange a c r)) (has_right_fault s w k (line.Exchange a c r)) h).0
 told_response s w k (line.Failed a c d) h = (and_parts (has_right_response w (line.Failed a c d)) (has_right_fault s w k (line.Failed a c d)) h).0
 told_response s w k (line.Reset a) h = refl
@@ -260,12 +282,53 @@ responses_right s (l ∷ earlier) h =
 abbrev standing_behind : Script → Kept → Line → Standing → Standing
 standing_behind s k l st = standing_after l (facts_of s l k).event (facts_of s l k).touch (refused_of k.selected (jobs_beside l k.history.epoch (facts_of s l k) k.selected k.jobs) (facts_of s l k).answered) (family_begun s l) st
 
+-- an epoch lives, and no reset is due in its turn
+abbrev holds_of : Kept → Bool
+holds_of k = k.history.living && not (goes_to_reset k.turn.stage)
+
 -- what the board is compared with behind the lines
 abbrev seen : Script → List Line → Seen
-seen s lines = record { world = world_of s lines; count = (kept_of s lines).publications; texts = texts_of lines; changed = changed_in s lines }
+seen s lines = record { world = world_of s lines; count = (kept_of s lines).publications; texts = texts_of lines; changed = changed_in s lines; holds = holds_of (kept_of s lines) }
 
 abbrev BoardTrue : Script → List Line → Type 0
 BoardTrue s lines = AllTrue (seen s lines) (kept_of s lines).standings
+
+no_reset_stage : (work : Work) (stage : Stage) → reset_by_stage work stage ≡ false → goes_to_reset stage ≡ false
+no_reset_stage work fresh_stage h = refl
+no_reset_stage work (next c) h = refl
+no_reset_stage work resetting h = dead (sym h)
+no_reset_stage work over h = refl
+
+-- where no UPDATE was done and no reset is asked for, a path that is spoiled is renewed
+moved_renewed : (path : List ℕ) (o : Option ProactiveValue) → has_value asks_reset o ≡ false → has_value (is_moved_by path) o ≡ true → has_value (is_refreshed path) o ≡ true
+moved_renewed path None h m = m
+moved_renewed path (Some p) h m = by_tests (asks_reset p) (is_refreshed path p) h m
+  where
+    by_tests : (a b : Bool) → a ≡ false → (a || b) ≡ true → b ≡ true
+    by_tests false b e g = g
+    by_tests true b e g = dead (sym e)
+
+path_renewed : (t : Touch) (selected : Option (List ℕ)) (path : List ℕ) → t.begins ≡ false → t.written ≡ written.Nothing → has_value asks_reset t.refresh ≡ false → is_spoiled t selected path ≡ true → is_renewed t path ≡ true
+path_renewed t selected path begins none asks h =
+    let moved : has_value (is_moved_by path) t.refresh ≡ true = last_of (has_value (is_moved_by path) t.refresh) (sym (ap (λ (b : Bool). (b || is_raw_write t.written || has_value (is_moved_by path) t.refresh) || is_overwritten selected path t.written) begins ∙ ap (λ (w : Written). (false || is_raw_write w || has_value (is_moved_by path) t.refresh) || is_overwritten selected path w) none) ∙ h) in
+    ap (λ (b : Bool). b || is_raw_write t.written || has_value (is_refreshed path) t.refresh) begins ∙ or_later (false || is_raw_write t.written) (has_value (is_refreshed path) t.refresh) (moved_renewed path t.refresh asks moved)
+  where
+    last_of : (b : Bool) → ((false || false || b) || false) ≡ true → b ≡ true
+    last_of true e = refl
+    last_of false e = dead e
+
+some_path : (t : Touch) (selected : Option (List ℕ)) (paths : List (List ℕ)) → t.begins ≡ false → t.written ≡ written.Nothing → has_value asks_reset t.refresh ≡ false → list_any (is_spoiled t selected) paths ≡ true → renews_one t paths ≡ true
+some_path t selected [] begins none asks h = dead h
+some_path t selected (path ∷ paths) begins none asks h = elim (or_cases (is_spoiled t selected path) (list_any (is_spoiled t selected) paths) h) [
+  | inl p ↦ or_now (is_renewed t path) (renews_one t paths) (path_renewed t selected path begins none asks p)
+  | inr p ↦ or_later (is_renewed t path) (renews_one t paths) (some_path t selected paths begins none asks p)
+]
+
+nothing_written : (raw : Bool) (selected : Option (List ℕ)) (c : CommandValue) (r : ResponseValue) → is_update c r ≡ false → written_by raw selected c r ≡ written.Nothing
+nothing_written raw selected c r h = ap (λ (b : Bool). if not b then written.Nothing else if raw then written.Raw else if is_row_update c && is_some selected then written.Row else written.Unknown) h
+
+spoiled_renewed : (raw : Bool) (selected : Option (List ℕ)) (c : CommandValue) (r : ResponseValue) (paths : List (List ℕ)) → is_update c r ≡ false → has_value asks_reset (handed_refresh c r) ≡ false → list_any (is_spoiled (touch_exchanged raw selected c r) selected) paths ≡ true → renews_one (touch_exchanged raw selected c r) paths ≡ true
+spoiled_renewed raw selected c r paths undone asks h = some_path (touch_exchanged raw selected c r) selected paths refl (nothing_written raw selected c r undone) asks h
 
 -- an UPDATE that was done and is an application's renews every path
 raw_renews : (raw : Bool) (selected : Option (List ℕ)) (c : CommandValue) (r : ResponseValue) (path : List ℕ) → is_update c r ≡ true → raw ≡ true → is_renewed (touch_exchanged raw selected c r) path ≡ true
@@ -288,7 +351,7 @@ module _ (shows : ShowsCard) (s : Script) (earlier : List Line) (rules : keeps_r
 
   -- nothing is published
   abbrev after : Line → Seen
-  after l = record { world = world_after l before; count = kept.publications; texts = texts_of earlier; changed = changed_in s (l ∷ earlier) }
+  after l = record { world = world_after l before; count = kept.publications; texts = texts_of earlier; changed = changed_in s (l ∷ earlier); holds = holds_of (kept_after s l kept) }
 
   abbrev Behind : Line → Type 0
   Behind l = AllTrue (after l) (map (standing_behind s kept l) kept.standings)
@@ -296,42 +359,122 @@ module _ (shows : ShowsCard) (s : Script) (earlier : List Line) (rules : keeps_r
   abbrev refused_now : Line → Option RefusedReading
   refused_now l = refused_of kept.selected (jobs_beside l kept.history.epoch (facts_of s l kept) kept.selected kept.jobs) (facts_of s l kept).answered
 
+  abbrev renews_now : Line → Standing → Bool
+  renews_now l st = st.wanted && renews_one (facts_of s l kept).touch (family_paths st.family)
+
   past_event : (f : ℕ) → changed_in s earlier f ≤ event
   past_event f = let h = changed_upto s f earlier in omega (arith, h)
 
   itself : (n : ℕ) → n ≤ n
   itself n = omega arith
 
-  -- and the card shows the same
-  same_board : (l : Line) → ((f : ℕ) (x : Option ℕ) → settled_by f l x ≡ x) → ((f : ℕ) (o : Option ℕ) → shown_behind f l o ≡ o) → (is_some (card_inside before) ≡ true → is_some (card_inside (world_after l before)) ≡ true) → ((f : ℕ) → shown_in (world_after l before) f ≡ shown_in before f) → Behind l
-  same_board l settles told_still inside same = all_map s earlier (seen s earlier) (after l) (standing_behind s kept l) (λ st a q. record {
+  -- what the line does to each standing
+  by_each : (l : Line) → ((f : ℕ) (o : Option ℕ) → shown_behind f l o ≡ o) → ((st : Standing) → StandsTrue (seen s earlier) st → IsShown (after l) (standing_behind s kept l st) st.shown) → Behind l
+  by_each l told_still each = all_map s earlier (seen s earlier) (after l) (standing_behind s kept l) (λ st a q. record {
     known = q.known;
-    shows = subst (λ (o : Option ℕ). IsShown (after l) (standing_behind s kept l st) o) (sym (told_still st.family st.shown))
-        (shown_still (seen s earlier) (after l) l event (refused_in st.family (refused_now l)) (family_begun s l) st (itself kept.publications) inside (st.wanted && renews_one (facts_of s l kept).touch (family_paths st.family)) (settles st.family (refused_in st.family (refused_now l))) (same st.family) (λ n h. refl) (changed_same s st.family l earlier (same st.family)) (past_event st.family) st.shown q.shows);
+    shows = subst (λ (o : Option ℕ). IsShown (after l) (standing_behind s kept l st) o) (sym (told_still st.family st.shown)) (each st q);
   }) kept.standings (standings_wanted s earlier) t
 
-  -- or each wanted family is renewed
-  renewed_board : (l : Line) → ((f : ℕ) (o : Option ℕ) → shown_behind f l o ≡ o) → (is_some (card_inside before) ≡ true → is_some (card_inside (world_after l before)) ≡ true) → ((path : List ℕ) → is_renewed (facts_of s l kept).touch path ≡ true) → ((f : ℕ) → changed_in s (l ∷ earlier) f ≤ event) → Behind l
-  renewed_board l told_still inside renews past = all_map s earlier (seen s earlier) (after l) (standing_behind s kept l) (λ st a q. record {
-    known = q.known;
-    shows = subst (λ (o : Option ℕ). IsShown (after l) (standing_behind s kept l st) o) (sym (told_still st.family st.shown))
-        (shown_renewed (seen s earlier) (after l) l event (refused_in st.family (refused_now l)) (family_begun s l) st (itself kept.publications) inside (st.wanted && renews_one (facts_of s l kept).touch (family_paths st.family)) (λ w. and_from st.wanted (renews_one (facts_of s l kept).touch (family_paths st.family)) w (some_renewed (facts_of s l kept).touch st.family renews q.known)) (past st.family) st.shown q.shows);
-  }) kept.standings (standings_wanted s earlier) t
+  -- of one standing: the card shows the same of it
+  one_same : (l : Line) → ((after l).holds ≡ true → (seen s earlier).holds ≡ true) → ((f : ℕ) (x : Option ℕ) → settled_by f l x ≡ x) → (st : Standing) → shown_in (world_after l before) st.family ≡ shown_in before st.family → StandsTrue (seen s earlier) st → IsShown (after l) (standing_behind s kept l st) st.shown
+  one_same l held settles st same q =
+      shown_still (seen s earlier) (after l) l event (refused_in st.family (refused_now l)) (family_begun s l) st (itself kept.publications) (renews_now l st) held (settles st.family (refused_in st.family (refused_now l))) same (λ n h. refl) (changed_same s st.family l earlier same) (past_event st.family) st.shown q.shows
+
+  -- it is renewed
+  one_renewed : (l : Line) → ((f : ℕ) → changed_in s (l ∷ earlier) f ≤ event) → (st : Standing) → renews_one (facts_of s l kept).touch (family_paths st.family) ≡ true → StandsTrue (seen s earlier) st → IsShown (after l) (standing_behind s kept l st) st.shown
+  one_renewed l past st renews q =
+      shown_renewed (seen s earlier) (after l) l event (refused_in st.family (refused_now l)) (family_begun s l) st (itself kept.publications) (renews_now l st) (λ w. and_from st.wanted (renews_one (facts_of s l kept).touch (family_paths st.family)) w renews) (past st.family) st.shown q.shows
+
+  -- or nothing is known of it
+  one_past : (l : Line) → (after l).holds ≡ false → (st : Standing) → StandsTrue (seen s earlier) st → IsShown (after l) (standing_behind s kept l st) st.shown
+  one_past l past st q =
+      shown_past (seen s earlier) (after l) l event (refused_in st.family (refused_now l)) (family_begun s l) st (itself kept.publications) (renews_now l st) past st.shown q.shows
+
+  -- and so of all
+  same_board : (l : Line) → ((after l).holds ≡ true → (seen s earlier).holds ≡ true) → ((f : ℕ) (x : Option ℕ) → settled_by f l x ≡ x) → ((f : ℕ) (o : Option ℕ) → shown_behind f l o ≡ o) → ((f : ℕ) → shown_in (world_after l before) f ≡ shown_in before f) → Behind l
+  same_board l held settles told_still same = by_each l told_still (λ st q. one_same l held settles st (same st.family) q)
+
+  renewed_board : (l : Line) → ((f : ℕ) (o : Option ℕ) → shown_behind f l o ≡ o) → ((path : List ℕ) → is_renewed (facts_of s l kept).touch path ≡ true) → ((f : ℕ) → changed_in s (l ∷ earlier) f ≤ event) → Behind l
+  renewed_board l told_still renews past = by_each l told_still (λ st q. one_renewed l past st (some_renewed (facts_of s l kept).touch st.family renews q.known) q)
+
+  past_board : (l : Line) → ((f : ℕ) (o : Option ℕ) → shown_behind f l o ≡ o) → (after l).holds ≡ false → Behind l
+  past_board l told_still past = by_each l told_still (λ st q. one_past l past st q)
+
+  -- ---- whether an epoch lived, and no reset was due
+
+  held_by : kept.history.living ≡ true → goes_to_reset kept.turn.stage ≡ false → (seen s earlier).holds ≡ true
+  held_by living stage = and_from kept.history.living (not (goes_to_reset kept.turn.stage)) living (ap not stage)
+
+  -- where the line stands behind the reset of the turn
+  held_behind : is_reset_due kept ≡ false → (living x : Bool) → living ≡ kept.history.living → (living && x) ≡ true → (seen s earlier).holds ≡ true
+  held_behind reset living x same h = held_by (sym same ∙ (and_parts living x h).0) (no_reset_stage kept.turn.work kept.turn.stage reset)
+
+  -- ---- an exchange
+
+  sent_stage : (a : ℕ) (c : CommandValue) (r : ResponseValue) → is_followed s kept (line.Exchange a c r) ≡ true → goes_to_reset kept.turn.stage ≡ false
+  sent_stage a c r h = by_first kept.turn.stage (exchange_next s kept (shape s earlier followed).chain a c r h).first
+    where
+      by_first : (stage : Stage) → IsFirstOf (chain_first c kept.chain) stage → goes_to_reset stage ≡ false
+      by_first fresh_stage f = refl
+      by_first (next d) f = refl
+      by_first resetting f = absurd f
+      by_first over f = absurd f
+
+  exchange_held : (a : ℕ) (c : CommandValue) (r : ResponseValue) → is_followed s kept (line.Exchange a c r) ≡ true → (after (line.Exchange a c r)).holds ≡ true → (seen s earlier).holds ≡ true
+  exchange_held a c r h held = held_by (sent_lives s kept a (line.Exchange a c r) (lively s earlier followed) h) (sent_stage a c r h)
+
+  -- a REFRESH that asks for a reset was handed over: it is due
+  reset_holds : (a : ℕ) (c : CommandValue) (r : ResponseValue) → is_followed s kept (line.Exchange a c r) ≡ true → has_value asks_reset (handed_refresh c r) ≡ true → (after (line.Exchange a c r)).holds ≡ false
+  reset_holds a c r h asks = by_fetch ((c.ins == fetch_ins) && is_success r.sw) refl asks
+    where
+      none_behind : (living : Bool) (stage : Stage) → stage ≡ resetting → (living && not (goes_to_reset stage)) ≡ false
+      none_behind true stage e = ap (λ (x : Stage). not (goes_to_reset x)) e
+      none_behind false stage e = refl
+
+      by_fetch : (b : Bool) → ((c.ins == fetch_ins) && is_success r.sw) ≡ b → has_value asks_reset (elim b [ true ↦ refresh_of (read_proactive r.body) | false ↦ None ]) ≡ true → (after (line.Exchange a c r)).holds ≡ false
+      by_fetch false e q = dead q
+      by_fetch true e q =
+          let p = and_parts (c.ins == fetch_ins) (is_success r.sw) e in
+          none_behind (kept_after s (line.Exchange a c r) kept).history.living (kept_after s (line.Exchange a c r) kept).turn.stage
+          (fetch_resets s kept (fetches_first s earlier followed) a c r h p.0 (final_success r.sw p.1) asks)
+
+  -- a command that is no UPDATE that was done, for a family: it spoils no path, or the family is renewed, or the card is to be reset
+  exchange_one : (a : ℕ) (c : CommandValue) (r : ResponseValue) → is_followed s kept (line.Exchange a c r) ≡ true → has_right_response before (line.Exchange a c r) ≡ true → is_update c r ≡ false → (st : Standing) → StandsTrue (seen s earlier) st → IsShown (after (line.Exchange a c r)) (standing_behind s kept (line.Exchange a c r) st) st.shown
+  exchange_one a c r h right undone st q = by_reset (has_value asks_reset (handed_refresh c r)) refl
+    where
+      by_spoil : (b : Bool) → list_any (is_spoiled (facts_of s (line.Exchange a c r) kept).touch kept.selected) (family_paths st.family) ≡ b → has_value asks_reset (handed_refresh c r) ≡ false → IsShown (after (line.Exchange a c r)) (standing_behind s kept (line.Exchange a c r) st) st.shown
+      by_spoil false e asks = one_same (line.Exchange a c r) (exchange_held a c r h) (λ f x. refl) st (stays_shown s earlier a c r rules (responses_right s earlier told) right st.family q.known e) q
+      by_spoil true e asks = one_renewed (line.Exchange a c r) (λ f. changed_upto s f (line.Exchange a c r ∷ earlier)) st (spoiled_renewed (is_raw_line s (line.Exchange a c r) kept.jobs) kept.selected c r (family_paths st.family) undone asks e) q
+
+      by_reset : (b : Bool) → has_value asks_reset (handed_refresh c r) ≡ b → IsShown (after (line.Exchange a c r)) (standing_behind s kept (line.Exchange a c r) st) st.shown
+      by_reset true e = one_past (line.Exchange a c r) (reset_holds a c r h e) st q
+      by_reset false e = by_spoil (list_any (is_spoiled (facts_of s (line.Exchange a c r) kept).touch kept.selected) (family_paths st.family)) refl e
 
   exchange_by : (a : ℕ) (c : CommandValue) (r : ResponseValue) → is_followed s kept (line.Exchange a c r) ≡ true → has_right_response before (line.Exchange a c r) ≡ true → (b : Bool) → is_update c r ≡ b → Behind (line.Exchange a c r)
-  exchange_by a c r h right false e = same_board (line.Exchange a c r) (λ f x. refl) (λ f o. refl) (λ i. step_inside before a c r right) (λ f. step_shown before a c r f (unarmed_of s earlier served followed) e right)
+  exchange_by a c r h right false e = by_each (line.Exchange a c r) (λ f o. refl) (λ st q. exchange_one a c r h right e st q)
   exchange_by a c r h right true e =
       let update : is_update_ins c.ins ≡ true = (and_parts (is_update_ins c.ins) (is_success r.sw) e).0 in
-      renewed_board (line.Exchange a c r) (λ f o. refl) (λ i. step_inside before a c r right) (λ path. raw_renews (is_raw_line s (line.Exchange a c r) kept.jobs) kept.selected c r path e (exchange_update s kept a c r (sends_of s earlier served followed) h update)) (λ f. changed_upto s f (line.Exchange a c r ∷ earlier))
+      renewed_board (line.Exchange a c r) (λ f o. refl) (λ path. raw_renews (is_raw_line s (line.Exchange a c r) kept.jobs) kept.selected c r path e (sym (ap (has_value is_raw) (turn_is s kept a c r h)) ∙ raw_alone s kept c served (exchange_update s kept a c r (sends_of s earlier served followed) h update))) (λ f. changed_upto s f (line.Exchange a c r ∷ earlier))
 
-  event_by : (a : ℕ) (e : WorldEvent) → is_insertion e ≡ true → is_none (refusal_of before e) ≡ true → Behind (line.World a e)
-  event_by a (Insert j) i untold = renewed_board (line.World a (Insert j)) (λ f o. refl) (λ inside. dead (sym (insert_empty before j untold) ∙ inside)) (λ path. refl) (λ f. changed_upto s f (line.World a (Insert j) ∷ earlier))
-  event_by a Out i untold = dead i
-  event_by a (Arm j) i untold = dead i
+  -- ---- an event of the world
+
+  event_by : (a : ℕ) (e : WorldEvent) → is_reset_due kept ≡ false → Behind (line.World a e)
+  event_by a (Insert j) reset = renewed_board (line.World a (Insert j)) (λ f o. refl) (λ path. refl) (λ f. changed_upto s f (line.World a (Insert j) ∷ earlier))
+  event_by a Out reset = past_board (line.World a Out) (λ f o. refl) refl
+  event_by a (Arm j) reset = same_board (line.World a (Arm j)) (λ h. held_behind reset kept.history.living true refl h) (λ f x. refl) (λ f o. refl) (λ f. arm_shown before j f)
+
+  -- ---- a publication
+
+  published_last : (number f e n : ℕ) (text : List ℕ) (d : Due) → is_published kept number f e n text d ≡ true → comes_last d ≡ true
+  published_last number f e n text (publish g) h = refl
+  published_last number f e n text d h = dead h
+
+  published_held : (number f e n : ℕ) (text : List ℕ) → is_published kept number f e n text (due s kept) ≡ true → (seen s (line.Published number f e n text ∷ earlier)).holds ≡ true → (seen s earlier).holds ≡ true
+  published_held number f e n text h held = held_behind (none_resets s kept (published_last number f e n text (due s kept) h)) kept.history.living true refl held
 
   published_shown : (number f e n : ℕ) (text : List ℕ) → is_published kept number f e n text (due s kept) ≡ true → IsToldTrue before kept number f text → (st : Standing) → IsWanted s earlier st → StandsTrue (seen s earlier) st → (b : Bool) → (f == st.family) ≡ b → IsShown (seen s (line.Published number f e n text ∷ earlier)) (standing_behind s kept (line.Published number f e n text) st) (if b then Some number else st.shown)
   published_shown number f e n text h is st a q false g =
-      shown_still (seen s earlier) (seen s (line.Published number f e n text ∷ earlier)) (line.Published number f e n text) event None None st (to_more kept.publications) (λ i. i) (st.wanted && renews_one quiet_touch (family_paths st.family))
+      shown_still (seen s earlier) (seen s (line.Published number f e n text ∷ earlier)) (line.Published number f e n text) event None None st (to_more kept.publications) (st.wanted && renews_one quiet_touch (family_paths st.family)) (published_held number f e n text h)
       (ap (λ (b : Bool). if b then Some n else None) g) refl (λ m u. text_later kept.publications m text (texts_of earlier) u) refl (past_event st.family) st.shown q.shows
   published_shown number f e n text h is st a q true g =
       let family : f ≡ st.family = eqb-true f st.family g in
@@ -341,8 +484,7 @@ module _ (shows : ShowsCard) (s : Script) (earlier : List Line) (rules : keeps_r
       subst (λ (m : ℕ). IsTrue (seen s (line.Published number f e n text ∷ earlier)) (standing_behind s kept (line.Published number f e n text) st) m) (sym is.next) (record {
         upto = itself (kept.publications + 1);
         wanted = or_now st.wanted false (a.wanted ∙ asked);
-        inside = some_shown (card_inside before) st.family text shown;
-        known = current (ap (λ (x : List ℕ). same_shown (shown_in before st.family) (Some x)) (text_new kept.publications text (texts_of earlier)) ∙ shown);
+        known = λ held. current (ap (λ (x : List ℕ). same_shown (shown_in before st.family) (Some x)) (text_new kept.publications text (texts_of earlier)) ∙ shown);
       })
 
   published_board : (number f e n : ℕ) (text : List ℕ) → is_published kept number f e n text (due s kept) ≡ true → BoardTrue s (line.Published number f e n text ∷ earlier)
@@ -353,18 +495,37 @@ module _ (shows : ShowsCard) (s : Script) (earlier : List Line) (rules : keeps_r
   ended_board : (number e n : ℕ) → BoardTrue s (line.EpochEnd number e n ∷ earlier)
   ended_board number e n = all_map s earlier (seen s earlier) (seen s (line.EpochEnd number e n ∷ earlier)) (standing_behind s kept (line.EpochEnd number e n)) (λ st a q. record { known = q.known; shows = tt }) kept.standings (standings_wanted s earlier) t
 
+  -- ---- a mark and an answer
+
+  given_last : (given : Answer) (d : Due) → is_given_or_refused given d ≡ true → comes_last d ≡ true
+  given_last given (give x) h = refl
+  given_last given (try_event e) h = refl
+  given_last given d h = dead h
+
+  tried_last : (e : WorldEvent) (d : Due) → is_tried e d ≡ true → comes_last d ≡ true
+  tried_last e (try_event x) h = refl
+  tried_last e d h = dead h
+
+  answered_held : (a i : ℕ) (given : Answer) → is_followed s kept (line.Answered a i given) ≡ true → is_reset_due kept ≡ false
+  answered_held a i given h =
+      let p = and_parts (is_turn_of a kept.turn) (is_begun_at i (begun_of a kept.jobs) && is_given_or_refused given (due s kept)) h in
+      none_resets s kept (given_last given (due s kept) (and_parts (is_begun_at i (begun_of a kept.jobs)) (is_given_or_refused given (due s kept)) p.1).1)
+
+  marked_held : (a : ℕ) → is_followed s kept (line.Turn a) ≡ true → is_reset_due kept ≡ false
+  marked_held a h = (turn_done s kept (and_parts (ends_turn (due s kept)) (not (is_finished s kept)) (and_parts (ends_turn (due s kept) && not (is_finished s kept)) (nat_le a (actor_count s)) h).0).0).reset
+
   line_board : (l : Line) → is_followed s kept l ≡ true → is_told s before kept l ≡ true → BoardTrue s (l ∷ earlier)
   line_board (line.Exchange a c r) h told_now = exchange_by a c r h (told_response s before kept (line.Exchange a c r) told_now) (is_update c r) refl
-  line_board (line.Failed a c d) h told_now = absurd (never_failed s before kept a c d served told_now)
-  line_board (line.Reset a) h told_now = renewed_board (line.Reset a) (λ f o. refl) (λ i. reset_some before (card_inside before) refl i) (λ path. refl) (λ f. changed_upto s f (line.Reset a ∷ earlier))
-  line_board (line.ResetFailed a) h told_now = same_board (line.ResetFailed a) (λ f x. refl) (λ f o. refl) (λ i. i) (λ f. refl)
-  line_board (line.World a e) h told_now = event_by a e (world_insertion s kept a e (sends_of s earlier served followed) h) told_now
-  line_board (line.Turn a) h told_now = same_board (line.Turn a) (λ f x. refl) (λ f o. refl) (λ i. i) (λ f. refl)
-  line_board (line.Begin a i) h told_now = same_board (line.Begin a i) (λ f x. refl) (λ f o. refl) (λ i. i) (λ f. refl)
+  line_board (line.Failed a c d) h told_now = past_board (line.Failed a c d) (λ f o. refl) refl
+  line_board (line.Reset a) h told_now = renewed_board (line.Reset a) (λ f o. refl) (λ path. refl) (λ f. changed_upto s f (line.Reset a ∷ earlier))
+  line_board (line.ResetFailed a) h told_now = past_board (line.ResetFailed a) (λ f o. refl) refl
+  line_board (line.World a e) h told_now = event_by a e (none_resets s kept (tried_last e (due s kept) (and_parts (is_turn_of a kept.turn) (is_tried e (due s kept)) h).1))
+  line_board (line.Turn a) h told_now = same_board (line.Turn a) (λ held. held_behind (marked_held a h) kept.history.living true refl held) (λ f x. refl) (λ f o. refl) (λ f. refl)
+  line_board (line.Begin a i) h told_now = same_board (line.Begin a i) (λ held. held) (λ f x. refl) (λ f o. refl) (λ f. refl)
   line_board (line.Published number f e n text) h told_now = published_board number f e n text h
   line_board (line.EpochEnd number e n) h told_now = ended_board number e n
-  line_board (line.Refused f n) h told_now = same_board (line.Refused f n) (λ f x. refl) (λ f o. refl) (λ i. i) (λ f. refl)
-  line_board (line.Answered a i given) h told_now = same_board (line.Answered a i given) (λ f x. refl) (λ f o. refl) (λ i. i) (λ f. refl)
+  line_board (line.Refused f n) h told_now = same_board (line.Refused f n) (λ held. held) (λ f x. refl) (λ f o. refl) (λ f. refl)
+  line_board (line.Answered a i given) h told_now = same_board (line.Answered a i given) (λ held. held_behind (answered_held a i given h) kept.history.living true refl held) (λ f x. refl) (λ f o. refl) (λ f. refl)
 
 -- the board shows of each family what the card shows, or the family is stale, or a later reading of it was refused
 board_true : ShowsCard → (s : Script) (lines : List Line) → keeps_rules s ≡ true → serves s ≡ true → are_followed s lines ≡ true → are_told s lines ≡ true → BoardTrue s lines
@@ -411,10 +572,10 @@ module _ (b : Seen) where
   known_right st n fresh (stale at h) = dead (sym fresh ∙ ap is_some at)
   known_right st n fresh (refused r at h g) = shown_or_known (same_shown (shown_in b.world st.family) (Some (text_of b.count n b.texts))) (is_refusal_known b.changed st) (inr (refusal_right st r at h g))
 
-  -- with a card inside
-  one_right : (st : Standing) → is_stale st ≡ false → (o : Option ℕ) → IsShown b st o → is_shown_right b.world (λ n. text_of b.count n b.texts) b.changed st o ≡ true
-  one_right st fresh None t = refl
-  one_right st fresh (Some n) t = known_right st n fresh t.known
+  -- while an epoch lives
+  one_right : (st : Standing) → is_stale st ≡ false → b.holds ≡ true → (o : Option ℕ) → IsShown b st o → is_shown_right b.world (λ n. text_of b.count n b.texts) b.changed st o ≡ true
+  one_right st fresh held None t = refl
+  one_right st fresh held (Some n) t = known_right st n fresh (t.known held)
 
   fresh_first : (st : Standing) (rest : List Standing) → is_some (first_stale (st ∷ rest)) ≡ false → (is_stale st ≡ false) × (is_some (first_stale rest) ≡ false)
   fresh_first st rest h = by_stale (is_stale st) refl h
@@ -423,24 +584,16 @@ module _ (b : Seen) where
       by_stale true e q = dead (sym q)
       by_stale false e q = (e, q)
 
-  all_right : (standings : List Standing) → is_some (first_stale standings) ≡ false → AllTrue b standings → list_all IsRight standings ≡ true
-  all_right [] fresh t = refl
-  all_right (st ∷ rest) fresh t =
+  all_right : (standings : List Standing) → is_some (first_stale standings) ≡ false → b.holds ≡ true → AllTrue b standings → list_all IsRight standings ≡ true
+  all_right [] fresh held t = refl
+  all_right (st ∷ rest) fresh held t =
       let q = fresh_first st rest fresh in
-      and_from (IsRight st) (list_all IsRight rest) (one_right st q.0 st.shown t.0.shows) (all_right rest q.1 t.1)
+      and_from (IsRight st) (list_all IsRight rest) (one_right st q.0 held st.shown t.0.shows) (all_right rest q.1 held t.1)
 
-  -- without one nothing is shown
-  none_right : (st : Standing) → is_some (card_inside b.world) ≡ false → (o : Option ℕ) → IsShown b st o → is_shown_right b.world (λ n. text_of b.count n b.texts) b.changed st o ≡ true
-  none_right st empty None t = refl
-  none_right st empty (Some n) t = dead (sym empty ∙ t.inside)
-
-  all_empty : (standings : List Standing) → is_some (card_inside b.world) ≡ false → AllTrue b standings → list_all IsRight standings ≡ true
-  all_empty [] empty t = refl
-  all_empty (st ∷ rest) empty t = and_from (IsRight st) (list_all IsRight rest) (none_right st empty st.shown t.0.shows) (all_empty rest empty t.1)
-
-  by_card : (standings : List Standing) → (x : Bool) → is_some (card_inside b.world) ≡ x → (x ≡ true → is_some (first_stale standings) ≡ false) → AllTrue b standings → list_all IsRight standings ≡ true
-  by_card standings true e fresh t = all_right standings (fresh refl) t
-  by_card standings false e fresh t = all_empty standings e t
+-- where nothing is shown
+none_right : (b : Seen) (standings : List Standing) → AllHidden standings → list_all (IsRight b) standings ≡ true
+none_right b [] t = refl
+none_right b (st ∷ rest) t = and_from (IsRight b st) (list_all (IsRight b) rest) (ap (is_shown_right b.world (λ n. text_of b.count n b.texts) b.changed st) t.0) (none_right b rest t.1)
 
 while_quiet : (b x : Bool) → (b ≡ true → x ≡ true) → elim b [ false ↦ true | true ↦ x ] ≡ true
 while_quiet false x h = refl
@@ -450,10 +603,17 @@ while_quiet true x h = h refl
 abbrev RestRight : (ℕ → ℕ) → World → Kept → List (List ℕ) → Type 0
 RestRight changed w k texts = elim (is_quiet k) [ false ↦ true | true ↦ list_all (is_standing_right w (λ n. text_of k.publications n texts) changed) k.standings ] ≡ true
 
-rest_known : (s : Script) (lines : List Line) → serves s ≡ true → are_told s lines ≡ true → BoardTrue s lines → RestRight (changed_in s lines) (world_of s lines) (kept_of s lines) (texts_of lines)
-rest_known s lines served told t =
+-- the turn has ended: an epoch lives, and no reset is due, or the end of the last one is told
+rest_by : (s : Script) (lines : List Line) → are_followed s lines ≡ true → IsDone s (kept_of s lines) → is_quiet (kept_of s lines) ≡ true → BoardTrue s lines → (living : Bool) → (kept_of s lines).history.living ≡ living → list_all (IsRight (seen s lines)) (kept_of s lines).standings ≡ true
+rest_by s lines followed done quiet t true e =
+    all_right (seen s lines) (kept_of s lines).standings (quiet_none (kept_of s lines) quiet e)
+    (and_from (kept_of s lines).history.living (not (goes_to_reset (kept_of s lines).turn.stage)) e (ap not (no_reset_stage (kept_of s lines).turn.work (kept_of s lines).turn.stage done.reset))) t
+rest_by s lines followed done quiet t false e = none_right (seen s lines) (kept_of s lines).standings (hidden_of s lines followed e done.ended)
+
+rest_known : (s : Script) (lines : List Line) → are_followed s lines ≡ true → IsDone s (kept_of s lines) → BoardTrue s lines → RestRight (changed_in s lines) (world_of s lines) (kept_of s lines) (texts_of lines)
+rest_known s lines followed done t =
     while_quiet (is_quiet (kept_of s lines)) (list_all (IsRight (seen s lines)) (kept_of s lines).standings)
-    (λ quiet. by_card (seen s lines) (kept_of s lines).standings (is_some (card_inside (world_of s lines))) refl (λ inside. quiet_none (kept_of s lines) quiet (lives_inside s lines served told inside)) t)
+    (λ quiet. rest_by s lines followed done quiet t (kept_of s lines).history.living refl)
 
 state_rest : (s : Script) (lines : List Line) → RestRight (changed_in s lines) (world_of s lines) (kept_of s lines) (texts_of lines) → is_rest_right (state_of s lines) (changed_in s lines) ≡ true
 state_rest s lines t =
@@ -461,6 +621,6 @@ state_rest s lines t =
     (subst (λ (x : Kept). RestRight (changed_in s lines) (state_of s lines).world x (texts_of lines)) (sym (state_kept s lines))
     (subst (λ (x : World). RestRight (changed_in s lines) x (kept_of s lines) (texts_of lines)) (sym (state_world s lines)) t))
 
--- at the end of each turn, and at any other place, where nothing is open the board shows what the card shows, or a refusal is known
+-- at the end of each turn, where nothing is open the board shows what the card shows, or a refusal is known
 pub rest_right : ShowsCard → (s : Script) (lines : List Line) → keeps_rules s ≡ true → serves s ≡ true → are_followed s lines ≡ true → are_told s lines ≡ true → ends_turn (due s (kept_of s lines)) ≡ true → is_rest_right (state_of s lines) (changed_in s lines) ≡ true
-rest_right shows s lines rules served followed told ends = state_rest s lines (rest_known s lines served told (board_true shows s lines rules served followed told))
+rest_right shows s lines rules served followed told ends = state_rest s lines (rest_known s lines followed (turn_done s (kept_of s lines) ends) (board_true shows s lines rules served followed told))

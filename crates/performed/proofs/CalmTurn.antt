@@ -85,7 +85,7 @@ module _ (k : Kept) where
   command_is : (c d : CommandValue) → due_command k ≡ Some d → has_value (same_command c) (due_command k) ≡ true → c ≡ d
   command_is c d e h = same_command_is c d (sym (ap (has_value (same_command c)) e) ∙ h)
 
-final_success : (sw : ℕ) → is_success sw ≡ true → wants_more sw ≡ false
+pub final_success : (sw : ℕ) → is_success sw ≡ true → wants_more sw ≡ false
 final_success sw h = rw (no_more_by sw h, no_other_by sw h) refl
 
 -- ---- an exchange

@@ -44,8 +44,9 @@ use Rattle.performed.specs.Followed.{begins_turn, is_followed, are_followed, is_
 use Rattle.performed.specs.Told.{are_told}
 use Rattle.performed.proofs.MeasureSays.{stands_of}
 use Rattle.performed.proofs.CalmLent.{sent_of, lost_of}
-use Rattle.performed.proofs.CalmKinds.{WorkFits, Sends, Kind, calm, application, opens, gives_up, closes, verifies, IsOfTurn}
-use Rattle.performed.proofs.CalmSends.{unlike, never, no_verify, form_ins, raw_other, turn_of, turn_by, exchanged_actor, exchanged_bare, index_kept, refit, work_there, exchange_of_turn, failed_of_turn, exchange_kind, failed_kind, sends_of, beside_stays}
+use Rattle.performed.proofs.CalmKinds.{WorkFits, Sends, Kind, calm, application, opens, gives_up, closes, updates, verifies, IsOfTurn}
+use Rattle.performed.proofs.CalmSends.{unlike, never, no_verify, form_ins, raw_other, work_there, exchange_of_turn, failed_of_turn, exchange_kind, failed_kind}
+use Rattle.performed.proofs.CalmLines.{turn_of, turn_by, exchanged_actor, exchanged_bare, index_kept, refit, sends_of, beside_stays}
 use Rattle.performed.proofs.ProgressBegins.{starts}
 use Rattle.performed.proofs.ProgressGoes.{goes_by_answer}
 use Rattle.performed.proofs.ProgressJobs.{changed, mapped}
@@ -72,6 +73,7 @@ kind_verify s k c (application handle apdu first e r f) h = absurd (raw_other ve
 kind_verify s k c (opens handle aid e stage opened f) h = unlike is_verify c open_command f refl h
 kind_verify s k c (gives_up handle aid number e stage opened f) h = unlike is_verify c (close_command number) f refl h
 kind_verify s k c (closes handle x e stage held f) h = unlike is_verify c (close_command x.number) f refl h
+kind_verify s k c (updates writer work ins) h = never (sym (ap is_verify ins) ∙ h)
 kind_verify s k c (verifies key pin e stage is) h = record { key = key; pin = pin; operation = e; is = is }
 
 -- ---- an operation whose VERIFY was sent
@@ -224,7 +226,7 @@ module _ (key : ℕ) (pin : List ℕ) where
   verify_over : (alive : ℕ → Bool) (handles : List Handle) (actor : Option ℕ) (work : Work) (opened : Option ℕ) (job : Job) (refresh : Option ProactiveValue) (f : Final) → WorkFits alive handles actor verification work → stage_after work verification opened job refresh f ≡ over
   verify_over alive handles actor (sends c) opened job refresh f w = refl
   verify_over alive handles actor (reads path) opened job refresh f w = absurd w
-  verify_over alive handles actor writes opened job refresh f w = absurd w
+  verify_over alive handles actor writes opened job refresh f w = never w
   verify_over alive handles actor rests opened job refresh f w = refl
   verify_over alive handles actor (refuses r) opened job refresh f w = refl
   verify_over alive handles actor (lacks k) opened job refresh f w = refl

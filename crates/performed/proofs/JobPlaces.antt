@@ -10,9 +10,9 @@ use Rattle.editor.specs.declared.editing.Attempt.{Attempt}
 use Rattle.rules.specs.declared.kept.Facts.{Facts}
 use Rattle.rules.specs.declared.kept.Job.{Job}
 use Rattle.rules.specs.declared.kept.Kept.{Kept}
-use Rattle.rules.specs.Kept.{actor_count, first_job, operation_at, job_of, begun_operation, operation_now, changed_at}
+use Rattle.rules.specs.Kept.{actor_count, first_job, operation_at, job_of, begun_of, begun_operation, operation_now, changed_at}
 use Rattle.rules.specs.Work.{has_operations_left}
-use Rattle.rules.specs.After.{facts_of, decision_at, job_beside, jobs_beside, own_job, actor_of, jobs_of_actor, kept_after, kept_of}
+use Rattle.rules.specs.After.{begun_with, fresh_begun, facts_of, decision_at, job_beside, jobs_beside, own_job, actor_of, jobs_of_actor, kept_after, kept_of}
 use Rattle.performed.proofs.ProgressJobs.{changed_here}
 use Rattle.performed.proofs.ProgressBegins.{Starts, nothing_below, some_below}
 
@@ -64,3 +64,13 @@ module _ (s : Script) (k : Kept) (a i : ℕ) (t : Starts s k a i) where
   begun_place count =
       let long : length beside_begin ≡ actor_count s + 1 = length-map k.jobs (job_beside (line.Begin a i) k.history.epoch (facts_of s (line.Begin a i) k) k.selected) ∙ count in
       begun_by (slice_get beside_begin a) refl (some_below beside_begin a (ap (nat_lt a) long ∙ has_place s k a t.left))
+
+  there_by : (o : Option Job) → slice_get beside_begin a ≡ o → is_some o ≡ true → begun_of a (kept_after s (line.Begin a i) k).jobs ≡ Some (begun_with (decision_at s (line.Begin a i) k).attempt (fresh_begun i k.history))
+  there_by None e h = absurd (true≢false (sym h))
+  there_by (Some x) e h = ap (λ (job : Job). job.begun) (changed_here (own_job s (line.Begin a i) k (facts_of s (line.Begin a i) k) (decision_at s (line.Begin a i) k).attempt) beside_begin a x e)
+
+  -- it has begun
+  pub begun_there : length k.jobs ≡ actor_count s + 1 → begun_of a (kept_after s (line.Begin a i) k).jobs ≡ Some (begun_with (decision_at s (line.Begin a i) k).attempt (fresh_begun i k.history))
+  begun_there count =
+      let long : length beside_begin ≡ actor_count s + 1 = length-map k.jobs (job_beside (line.Begin a i) k.history.epoch (facts_of s (line.Begin a i) k) k.selected) ∙ count in
+      there_by (slice_get beside_begin a) refl (some_below beside_begin a (ap (nat_lt a) long ∙ has_place s k a t.left))

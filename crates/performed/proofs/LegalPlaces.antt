@@ -1,12 +1,10 @@
 -- Each line that is due has its place, its answer, its fault and its text right; so has the turn that ends where nothing is due.
 use Rattle.std.proofs.Common.{◌≡◌, ℕ, suc, ◌+◌, ◌==◌, ◌&&◌, ◌||◌, not, Bool, true, false, if◌then◌else◌, Option, Some, None, List, [], ◌∷◌, refl, sym, ap, ◌∙◌, subst, true≢false, arith}
-use Rattle.std.specs.Prelude.{is_none, is_some, nat_le, nat_lt, option_and_then}
+use Rattle.std.specs.Prelude.{is_none, nat_le, nat_lt, option_and_then}
 use Rattle.std.proofs.lemmas.Bool.{and_parts, and_from, eqb-true, eq-eqb}
 use Rattle.apdu.specs.Words.{same_bytes, is_one_of}
 use Rattle.card_effects.proofs.Same.{same_bytes_is}
-use Rattle.card_model.specs.declared.world.CardState.{CardState}
 use Rattle.card_model.specs.declared.world.World.{World}
-use Rattle.card_model.specs.Step.{card_inside}
 use Rattle.script_reader.specs.declared.types.Operation.{Operation}
 use Rattle.script_reader.specs.declared.types.Script.{Script}
 use Rattle.script_reader.specs.Rules.{keeps_rules}
@@ -30,7 +28,7 @@ use Rattle.rules.specs.Channels.{held_numbers}
 use Rattle.rules.specs.Kept.{actor_count, job_of, begun_of, operation_now}
 use Rattle.rules.specs.Work.{is_idle, is_finished, has_operations_left}
 use Rattle.rules.specs.After.{facts_of, refused_of, jobs_beside, turn_exchanged, kept_of}
-use Rattle.rules.specs.State.{world_of, shown_in, shown_on, same_shown, boards_of, texts_of, State}
+use Rattle.rules.specs.State.{world_of, shown_in, same_shown, boards_of, texts_of, State}
 use Rattle.rules.specs.Due.{due, published_by, kept_text}
 use Rattle.rules.specs.Laws.{ShowsCard, KeptLooksBack}
 use Rattle.rules.specs.Performed.{ends_turn, begins_as, is_published}
@@ -42,7 +40,7 @@ use Rattle.performed.specs.Placed.{is_turn_allowed, is_placed}
 use Rattle.performed.specs.Laws.{MarksMove}
 use Rattle.performed.proofs.CalmRest.{responses_right}
 use Rattle.performed.proofs.TurnsSays.{Begins, BeginsNow, says_of, begins_now}
-use Rattle.performed.proofs.LegalWorld.{lives_inside}
+use Rattle.performed.proofs.EpochLives.{published_lives}
 use Rattle.performed.proofs.LegalDue.{does_line}
 use Rattle.performed.proofs.LegalScript.{is_family_or_none, family_known}
 use Rattle.performed.proofs.LegalResets.{turn_calm}
@@ -91,10 +89,6 @@ turn_right moves s m lines v f e allowed =
 
 -- ---- snapshots
 
-inside_shown : (o : Option CardState) (f : ℕ) (text : List ℕ) → same_shown (shown_on o f) (Some text) ≡ true → is_some o ≡ true
-inside_shown None f text h = absurd (true≢false (sym h))
-inside_shown (Some card) f text h = refl
-
 published_in : (b : Bool) (g f : ℕ) → is_one_of g all_families ≡ true → (if b then Some g else None) ≡ Some f → is_one_of f all_families ≡ true
 published_in true g f h e = let same : g ≡ f = cc in subst (λ (n : ℕ). is_one_of n all_families ≡ true) same h
 published_in false g f h e = absurd (cc)
@@ -103,8 +97,8 @@ one_family : (k : Kept) (family : Option ℕ) (f : ℕ) → is_family_or_none fa
 one_family k None f h e = absurd (cc)
 one_family k (Some g) f h e = published_in (is_none k.turn.published && all_current k.files (family_paths g)) g f h e
 
-snapshot_of : ShowsCard → (s : Script) (lines : List Line) → keeps_rules s ≡ true → serves s ≡ true → are_told s lines ≡ true → (number f e n : ℕ) (text : List ℕ) (d : Due) → due s (kept_of s lines) ≡ d → is_published (kept_of s lines) number f e n text d ≡ true → is_snapshot_right (world_of s lines) (kept_of s lines) number f e n text ≡ true
-snapshot_of shows s lines rules v told number f e n text (publish g) is h =
+snapshot_of : ShowsCard → (s : Script) (lines : List Line) → keeps_rules s ≡ true → serves s ≡ true → are_followed s lines ≡ true → are_told s lines ≡ true → (number f e n : ℕ) (text : List ℕ) (d : Due) → due s (kept_of s lines) ≡ d → is_published (kept_of s lines) number f e n text d ≡ true → is_snapshot_right (world_of s lines) (kept_of s lines) number f e n text ≡ true
+snapshot_of shows s lines rules v followed told number f e n text (publish g) is h =
     let k : Kept = kept_of s lines in
     let w : World = world_of s lines in
     let q1 = and_parts ((f == g) && (number == k.publications + 1) && (e == k.history.epoch) && (n == k.history.events)) (same_bytes text (kept_text f k)) h in
@@ -115,13 +109,13 @@ snapshot_of shows s lines rules v told number f e n text (publish g) is h =
     let one : is_one_of f all_families ≡ true = one_family k k.turn.family f (family_known s lines rules v) (says_of s k (publish f) is_f) in
     let shown : same_shown (shown_in w f) (Some (kept_text f k)) ≡ true = shows s lines f rules (responses_right s lines told) one is_f in
     let same : kept_text f k ≡ text = sym (same_bytes_is text (kept_text f k) q1.1) in
-    let living : k.history.living ≡ true = lives_inside s lines v told (inside_shown (card_inside w) f (kept_text f k) shown) in
+    let living : k.history.living ≡ true = published_lives s lines number f e n text followed one (ap (is_published k number f e n text) is ∙ h) in
     and_from ((number == k.publications + 1) && k.history.living && (e == k.history.epoch) && (n == k.history.events)) (same_shown (shown_in w f) (Some text))
     (and_from ((number == k.publications + 1) && k.history.living && (e == k.history.epoch)) (n == k.history.events)
     (and_from ((number == k.publications + 1) && k.history.living) (e == k.history.epoch)
     (and_from (number == k.publications + 1) k.history.living q4.1 living) q3.1) q2.1)
     (subst (λ (x : List ℕ). same_shown (shown_in w f) (Some x) ≡ true) same shown)
-snapshot_of shows s lines rules v told number f e n text d is h = absurd (true≢false (sym h))
+snapshot_of shows s lines rules v followed told number f e n text d is h = absurd (true≢false (sym h))
 
 -- ---- an operation begins
 
@@ -181,7 +175,7 @@ module _ (moves : MarksMove) (shows : ShowsCard) (looks : KeptLooksBack) (s : Sc
   line_placed (line.Answered a i given) h t p = refl
 
   pub snapshot_right : (l : Line) → is_followed s (kept_of s earlier) l ≡ true → has_right_snapshot (world_of s earlier) (kept_of s earlier) l ≡ true
-  snapshot_right (line.Published number f e n text) h = snapshot_of shows s earlier rules v told number f e n text (due s (kept_of s earlier)) refl h
+  snapshot_right (line.Published number f e n text) h = snapshot_of shows s earlier rules v followed told number f e n text (due s (kept_of s earlier)) refl h
   snapshot_right l h = refl
 
 -- answers and faults

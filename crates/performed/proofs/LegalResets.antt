@@ -32,7 +32,7 @@ use Rattle.rules.specs.declared.kept.Work.{Work}
 use Rattle.rules.specs.declared.kept.Work.TheVariants.{Rests as rests, Sends as sends, Reads as reads, Writes as writes, Resets as resets}
 use Rattle.rules.specs.History.{lives_in}
 use Rattle.rules.specs.Kept.{operation_at, begun_of, operation_now, job_of}
-use Rattle.rules.specs.Work.{living_handle, sends_raw, sends_close, reads_first, work_of_operation}
+use Rattle.rules.specs.Work.{living_handle, sends_raw, sends_close, reads_first, status_command, work_of_operation}
 use Rattle.rules.specs.Channels.{handle_of, held_numbers, is_raw_ins}
 use Rattle.rules.specs.Sessions.{verify_command}
 use Rattle.rules.specs.After.{facts_of, refused_of, jobs_beside, fresh_begun, decision_of_begun, opened_behind, next_or_over, stage_of_open, stage_of_sent, stage_after, turn_exchanged, kept_of}
@@ -101,11 +101,14 @@ close_calm (Some h) = refl
 module _ (k : Kept) where
   work_calm : (actor : ℕ) (b : Begun) (op : Operation) → is_served op ≡ true → is_calm_work (work_of_operation k actor b op).work ≡ true
   work_calm actor b (operation.Insert card) served = refl
+  work_calm actor b operation.Out served = refl
+  work_calm actor b (operation.Arm change) served = refl
   work_calm actor b (operation.Load f) served = if_calm (lives_in k.history b.epoch) (reads_first k.files (family_paths f)) (missing_calm (first_missing k.files (family_paths f)))
   work_calm actor b (operation.OpenChannel handle aid) served = if_calm (lives_in k.history b.epoch) (sends open_command) refl
   work_calm actor b (operation.Raw handle apdu) served = raw_calm apdu (living_handle k (handle_of actor handle k.handles))
   work_calm actor b (operation.Close handle) served = close_calm (living_handle k (handle_of actor handle k.handles))
   work_calm actor b (operation.Verify key pin) served = if_calm (lives_in k.history b.epoch) (sends (verify_command key pin)) refl
+  work_calm actor b operation.Poll served = if_calm (lives_in k.history b.epoch) (sends status_command) refl
   work_calm actor b (operation.End key) served = refl
   work_calm actor b operation.Look served = refl
   work_calm actor b op served = absurd (true≢false (sym served))

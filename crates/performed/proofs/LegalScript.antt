@@ -3,7 +3,7 @@ use Rattle.std.proofs.Common.{◌≡◌, ℕ, zero, suc, ◌==◌, ◌&&◌, ◌
 use Rattle.std.specs.Prelude.{nat_le, slice_get, unwrap_or, option_map, find, is_some, not}
 use Rattle.std.specs.List.{list_all}
 use Rattle.std.proofs.lemmas.Bool.{and_parts, and_from, leb-true}
-use Rattle.apdu.specs.Words.{is_between, is_empty, is_one_of}
+use Rattle.apdu.specs.Words.{is_between, is_one_of}
 use Rattle.script_reader.specs.declared.types.Operation.{Operation}
 use Rattle.script_reader.specs.declared.types.Operation.TheVariants as operation
 use Rattle.script_reader.specs.declared.types.Script.{Script}
@@ -42,7 +42,7 @@ module _ (test : Operation → Bool) (s : Script) (all : list_all (list_all test
   of_actor a i op None e h = absurd (cc)
   of_actor a i op (Some ops) e h = all_at test ops i op (all_at (list_all test) s.actors a ops all e) h
 
-  at_passes : (actor i : ℕ) (op : Operation) → operation_at s actor i ≡ Some op → test op ≡ true
+  pub at_passes : (actor i : ℕ) (op : Operation) → operation_at s actor i ≡ Some op → test op ≡ true
   at_passes zero i op h = absurd (cc)
   at_passes (suc a) i op h = of_actor a i op (slice_get s.actors a) refl h
 
@@ -56,7 +56,7 @@ pub record IsPlain (o : Option Operation) : Type 0 where
   pub formed : (op : Operation) → o ≡ Some op → has_form op ≡ true
 
 all_served : (s : Script) → serves s ≡ true → list_all (list_all is_served) s.actors ≡ true
-all_served s v = (and_parts (list_all (list_all is_served) s.actors) (is_empty s.faults) v).0
+all_served s v = v
 
 have_form : (cards changes : ℕ) (actors : List (List Operation)) → list_all (is_actor cards changes) actors ≡ true → list_all (list_all has_form) actors ≡ true
 have_form cards changes [] h = refl
@@ -114,11 +114,14 @@ if_none false o h = h
 
 family_of_op : (b : Begun) (op : Operation) → is_served op ≡ true → has_form op ≡ true → is_family_or_none (family_of_operation b op) ≡ true
 family_of_op b (operation.Insert card) served form = refl
+family_of_op b operation.Out served form = refl
+family_of_op b (operation.Arm change) served form = refl
 family_of_op b (operation.Load f) served form = below_three f form
 family_of_op b (operation.OpenChannel handle aid) served form = refl
 family_of_op b (operation.Raw handle apdu) served form = refl
 family_of_op b (operation.Close handle) served form = refl
 family_of_op b (operation.Verify key pin) served form = refl
+family_of_op b operation.Poll served form = refl
 family_of_op b (operation.End key) served form = refl
 family_of_op b operation.Look served form = refl
 family_of_op b op served form = absurd (true≢false (sym served))

@@ -4,7 +4,7 @@ use Rattle.std.proofs.Common.{◌≡◌, ℕ, zero, suc, ◌+◌, ◌≤◌, ◌
 use Rattle.std.specs.Prelude.{nat_lt, nat_le, option_map, slice_get, unwrap_or}
 use Rattle.std.specs.List.{list_all}
 use Rattle.std.proofs.lemmas.Bool.{and_parts, eqb-true, ltb-true, leb-true}
-use Rattle.apdu.specs.Words.{is_between, is_empty, is_one_of, or_else}
+use Rattle.apdu.specs.Words.{is_between, is_one_of, or_else}
 use Rattle.apdu.specs.Values.{CommandValue}
 use Rattle.apdu.specs.Apdu.{is_update_ins, is_success, wants_more, select_ins}
 use Rattle.script_reader.specs.declared.types.Script.{Script}
@@ -67,7 +67,7 @@ served_actor (ops ∷ actors) (suc a) i h = served_actor actors a i (and_parts (
 
 pub served_at : (s : Script) (a i : ℕ) → serves s ≡ true → ServesAt (operation_at s a i)
 served_at s zero i h = tt
-served_at s (suc a) i h = served_actor s.actors a i (and_parts (list_all (list_all is_served) s.actors) (is_empty s.faults) h).0
+served_at s (suc a) i h = served_actor s.actors a i h
 
 pub served_now : (s : Script) (a : ℕ) (o : Option Begun) → serves s ≡ true → ServesAt (begun_operation s a o)
 served_now s a None h = tt
@@ -77,11 +77,14 @@ served_now s a (Some b) h = served_at s a b.index h
 no_edit_of : (op : Option Operation) → ServesAt op → edit_of op ≡ None
 no_edit_of None h = refl
 no_edit_of (Some (operation.Insert card)) h = refl
+no_edit_of (Some operation.Out) h = refl
+no_edit_of (Some (operation.Arm change)) h = refl
 no_edit_of (Some (operation.Load f)) h = refl
 no_edit_of (Some (operation.OpenChannel handle aid)) h = refl
 no_edit_of (Some (operation.Raw handle apdu)) h = refl
 no_edit_of (Some (operation.Close handle)) h = refl
 no_edit_of (Some (operation.Verify key pin)) h = refl
+no_edit_of (Some operation.Poll) h = refl
 no_edit_of (Some (operation.End key)) h = refl
 no_edit_of (Some operation.Look) h = refl
 no_edit_of (Some op) h = absurd (true≢false (sym h))
@@ -90,11 +93,14 @@ no_attempt : (k : Kept) (a : ℕ) (o : Option Begun) (op : Option Operation) →
 no_attempt k a None op h = refl
 no_attempt k a (Some b) None h = refl
 no_attempt k a (Some b) (Some (operation.Insert card)) h = refl
+no_attempt k a (Some b) (Some operation.Out) h = refl
+no_attempt k a (Some b) (Some (operation.Arm change)) h = refl
 no_attempt k a (Some b) (Some (operation.Load f)) h = refl
 no_attempt k a (Some b) (Some (operation.OpenChannel handle aid)) h = refl
 no_attempt k a (Some b) (Some (operation.Raw handle apdu)) h = refl
 no_attempt k a (Some b) (Some (operation.Close handle)) h = refl
 no_attempt k a (Some b) (Some (operation.Verify key pin)) h = refl
+no_attempt k a (Some b) (Some operation.Poll) h = refl
 no_attempt k a (Some b) (Some (operation.End key)) h = refl
 no_attempt k a (Some b) (Some operation.Look) h = refl
 no_attempt k a (Some b) (Some op) h = absurd (true≢false (sym h))
@@ -102,11 +108,14 @@ no_attempt k a (Some b) (Some op) h = absurd (true≢false (sym h))
 no_mailbox : (op : Option Operation) (given : Answer) → ServesAt op → elim op as (λ o. Option Mailbox) [ None ↦ None | Some o ↦ mailbox_after o given None ] ≡ None
 no_mailbox None given h = refl
 no_mailbox (Some (operation.Insert card)) given h = refl
+no_mailbox (Some operation.Out) given h = refl
+no_mailbox (Some (operation.Arm change)) given h = refl
 no_mailbox (Some (operation.Load f)) given h = refl
 no_mailbox (Some (operation.OpenChannel handle aid)) given h = refl
 no_mailbox (Some (operation.Raw handle apdu)) given h = refl
 no_mailbox (Some (operation.Close handle)) given h = refl
 no_mailbox (Some (operation.Verify key pin)) given h = refl
+no_mailbox (Some operation.Poll) given h = refl
 no_mailbox (Some (operation.End key)) given h = refl
 no_mailbox (Some operation.Look) given h = refl
 no_mailbox (Some op) given h = absurd (true≢false (sym h))

@@ -26,7 +26,7 @@ use Rattle.rules.specs.History.{lives_in, is_living}
 use Rattle.rules.specs.Kept.{job_of, begun_of, operation_now}
 use Rattle.rules.specs.Channels.{is_handle_of, handle_of, is_living_handle, is_raw_ins}
 use Rattle.rules.specs.Sessions.{has_session, verify_command}
-use Rattle.rules.specs.Work.{reads_first, living_handle, sends_raw, sends_close, work_of_operation, family_published}
+use Rattle.rules.specs.Work.{reads_first, status_command, living_handle, sends_raw, sends_close, work_of_operation, family_published}
 use Rattle.apdu.specs.Words.{or_else}
 use Rattle.rules.specs.Due.{with_card, with_ended, is_lost, loaded, outcome_answer, on_handle, raw_on_handle, first_command, first_of_turn, command_by_stage, command_by_chain, reset_by_stage, event_by_stage, event_of, is_resetting, published_by, answer_of_begun, answer_of_actor, due_of_actor, due_by_answer, due_by_publication, due_by_refusal, due_by_event, due_by_reset, due_by_command, due_by_end, due, due_command, is_reset_due, tried_event, due_publication, due_answer}
 use Rattle.rules.specs.Performed.{ends_turn}
@@ -293,11 +293,14 @@ module _ (s : Script) (k before : Kept) (actor : ℕ) (b now : Begun) where
 
   pub operation_goes : (op : Operation) → is_served op ≡ true → RunsAs s k before actor b now op → ends_turn (due s k) ≡ false
   operation_goes (operation.Insert card) served r = happens_goes s k actor r.turn (world_event.Insert card) r.work
+  operation_goes operation.Out served r = happens_goes s k actor r.turn world_event.Out r.work
+  operation_goes (operation.Arm change) served r = happens_goes s k actor r.turn (world_event.Arm change) r.work
   operation_goes (operation.Load f) served r = load_of f now.epoch r refl
   operation_goes (operation.OpenChannel handle aid) served r = sent_of open_command (operation.OpenChannel handle aid) r (record { work = r.work; answer = refl }) now.epoch refl
   operation_goes (operation.Raw handle apdu) served r = raw_of handle apdu r (handle_of actor handle before.handles) refl
   operation_goes (operation.Close handle) served r = close_of handle r (handle_of actor handle before.handles) refl
   operation_goes (operation.Verify key pin) served r = sent_of (verify_command key pin) (operation.Verify key pin) r (record { work = r.work; answer = refl }) now.epoch refl
+  operation_goes operation.Poll served r = sent_of status_command operation.Poll r (record { work = r.work; answer = refl }) now.epoch refl
   operation_goes (operation.End key) served r = goes_by_answer s k (ap is_some (answers (operation.End key) r) ∙ either_given (has_session actor key k.sessions) answer.Ended (answer.NotHeldKey key))
   operation_goes operation.Look served r = goes_by_answer s k (ap is_some (answers operation.Look r))
   operation_goes op served r = absurd (true≢false (sym served))

@@ -68,7 +68,7 @@ module _ (s : Script) (k : Kept) (jobs : (i : ℕ) → IsSoundJob s k.history i 
   opens_alive : (a number : ℕ) → Opens k a number → lives_or_ended k.history (Some k.history.epoch) None ≡ true
   opens_alive a number o = begun_lives a number o (begun_of a k.jobs) refl o.here (jobs a)
 
-  given_alive : (l : Line) (a i handle number : ℕ) (aid : List ℕ) → is_followed s k l ≡ true → l ≡ line.Answered a i (answer.Opened number) → operation_at s a i ≡ Some (operation.OpenChannel handle aid) → lives_or_ended k.history (Some k.history.epoch) None ≡ true
+  pub given_alive : (l : Line) (a i handle number : ℕ) (aid : List ℕ) → is_followed s k l ≡ true → l ≡ line.Answered a i (answer.Opened number) → operation_at s a i ≡ Some (operation.OpenChannel handle aid) → lives_or_ended k.history (Some k.history.epoch) None ≡ true
   given_alive l a i handle number aid h e op = opens_alive a number (opens s k a i number handle aid op (subst (λ (x : Line). is_followed s k x ≡ true) e h))
 
   by_end : (l : Line) (b : Bool) → ends_epoch l k.history ≡ b → is_followed s k l ≡ true → are_sound_handles k.history k.handles ≡ true → are_sound_handles (history_after l k.history) (if b then ended_handles k.history.epoch (k.history.events + 1) k.handles else handles_given s l k.history.epoch k.handles) ≡ true

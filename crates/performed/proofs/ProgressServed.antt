@@ -3,7 +3,6 @@ use Rattle.std.proofs.Common.{◌≡◌, ℕ, zero, suc, true, List, [], ◌∷�
 use Rattle.std.specs.Prelude.{slice_get, unwrap_or}
 use Rattle.std.specs.List.{list_all}
 use Rattle.std.proofs.lemmas.Bool.{and_parts}
-use Rattle.apdu.specs.Words.{is_empty}
 use Rattle.script_reader.specs.declared.types.Script.{Script}
 use Rattle.script_reader.specs.declared.types.Operation.{Operation}
 use Rattle.rules.specs.Kept.{operation_at}
@@ -21,4 +20,4 @@ actor_served (ops ∷ xs) (suc a) h = actor_served xs a (and_parts (list_all is_
 
 pub served_at : (s : Script) (actor i : ℕ) (op : Operation) → serves s ≡ true → operation_at s actor i ≡ Some op → is_served op ≡ true
 served_at s zero i op h e = absurd (cc)
-served_at s (suc a) i op h e = one_served (unwrap_or (slice_get s.actors a) []) i op (actor_served s.actors a (and_parts (list_all (list_all is_served) s.actors) (is_empty s.faults) h).0) e
+served_at s (suc a) i op h e = one_served (unwrap_or (slice_get s.actors a) []) i op (actor_served s.actors a h) e

@@ -34,11 +34,14 @@ first_of false b c d h = refl
 
 nobody_edits : (s : Script) (k : Kept) (op : Operation) → is_served op ≡ true → edited_by s k op ≡ None
 nobody_edits s k (operation.Insert card) h = refl
+nobody_edits s k operation.Out h = refl
+nobody_edits s k (operation.Arm change) h = refl
 nobody_edits s k (operation.Load f) h = refl
 nobody_edits s k (operation.OpenChannel handle aid) h = refl
 nobody_edits s k (operation.Raw handle apdu) h = refl
 nobody_edits s k (operation.Close handle) h = refl
 nobody_edits s k (operation.Verify key pin) h = refl
+nobody_edits s k operation.Poll h = refl
 nobody_edits s k (operation.End key) h = refl
 nobody_edits s k operation.Look h = refl
 nobody_edits s k op h = absurd (true≢false (sym h))

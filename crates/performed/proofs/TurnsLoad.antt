@@ -49,10 +49,13 @@ load_of : (b : Begun) (lives : Bool) (op : Option Operation) (f : ℕ) → Serve
 load_of b lives None f h e = absurd (cc)
 load_of b lives (Some (operation.Load g)) f h e = record { family = g; is = refl }
 load_of b lives (Some (operation.Insert card)) f h e = absurd (none_published lives f e)
+load_of b lives (Some operation.Out) f h e = absurd (none_published lives f e)
+load_of b lives (Some (operation.Arm change)) f h e = absurd (none_published lives f e)
 load_of b lives (Some (operation.OpenChannel handle aid)) f h e = absurd (none_published lives f e)
 load_of b lives (Some (operation.Raw handle apdu)) f h e = absurd (none_published lives f e)
 load_of b lives (Some (operation.Close handle)) f h e = absurd (none_published lives f e)
 load_of b lives (Some (operation.Verify key pin)) f h e = absurd (none_published lives f e)
+load_of b lives (Some operation.Poll) f h e = absurd (none_published lives f e)
 load_of b lives (Some (operation.End key)) f h e = absurd (none_published lives f e)
 load_of b lives (Some operation.Look) f h e = absurd (none_published lives f e)
 load_of b lives (Some op) f h e = absurd (true≢false (sym h))

@@ -193,7 +193,7 @@ module _ (s : Script) (lines : List Line) (k : Kept) where
       by_open false q = first_stale_wanted s lines f k.standings h q
 
 module _ (op : Option Operation) (job : Job) (held : List ℕ) (facts : Facts) (refused : Option RefusedReading) (t : Turn) where
-  exchanged_family : (o : Option Final) → facts.answered ≡ o → (turn_exchanged op job held facts refused t).family ≡ t.family
+  pub exchanged_family : (o : Option Final) → facts.answered ≡ o → (turn_exchanged op job held facts refused t).family ≡ t.family
   exchanged_family None e = rw e refl
   exchanged_family (Some f) e = rw e refl
 

@@ -1,8 +1,9 @@
 -- Laws of runs whose each line is the one that is due.
-use Rattle.std.specs.Prelude.{◌≡◌, ◌≤◌, ℕ, ◌&&◌, ◌++◌, not, Bool, true, false, nat_lt, nat_le, List, [], ◌∷◌, length, Option, Some, None}
+use Rattle.std.specs.Prelude.{◌≡◌, ◌≤◌, ℕ, ◌+◌, ◌==◌, ◌&&◌, ◌++◌, if◌then◌else◌, not, Bool, true, false, nat_lt, nat_le, List, [], ◌∷◌, length, Option, Some, None, is_some}
 use Rattle.std.specs.List.{list_all}
 use Rattle.script_reader.specs.declared.types.Script.{Script}
 use Rattle.script_reader.specs.Rules.{keeps_rules}
+use Rattle.report.specs.declared.answer.Answer.TheVariants as answer
 use Rattle.report.specs.declared.line.Mode.{Mode}
 use Rattle.report.specs.declared.line.Line.{Line}
 use Rattle.report.specs.declared.line.Line.TheVariants as line
@@ -12,6 +13,7 @@ use Rattle.rules.specs.declared.holdings.Handle.{Handle}
 use Rattle.rules.specs.declared.kept.Begun.{Begun}
 use Rattle.rules.specs.declared.kept.Job.{Job}
 use Rattle.rules.specs.declared.kept.Kept.{Kept}
+use Rattle.rules.specs.History.{ends_epoch}
 use Rattle.rules.specs.Work.{is_finished, is_idle}
 use Rattle.rules.specs.After.{is_mark, kept_after, kept_of}
 use Rattle.rules.specs.Due.{due}
@@ -22,7 +24,7 @@ use Rattle.performed.specs.Served.{serves}
 use Rattle.performed.specs.Followed.{are_followed}
 use Rattle.performed.specs.Told.{are_told}
 use Rattle.performed.specs.Placed.{are_placed, is_turn_allowed}
-use Rattle.performed.specs.Measure.{steps_left}
+use Rattle.performed.specs.Measure.{one_if, steps_left}
 use Rattle.performed.specs.Progress.{operations_left, Moves}
 
 -- ---- legality
@@ -86,6 +88,35 @@ TurnsMove = (s : Script) (earlier added : List Line) (a : ℕ) → serves s ≡ 
 -- nobody's turn would move once it is
 abbrev pub NobodyMoves : Type 0
 NobodyMoves = (s : Script) (k : Kept) (a : ℕ) → a ≤ actor_count s → is_finished s k ≡ true → is_idle s k a ≡ true
+
+-- ---- epochs end
+
+-- how many ends of epochs the lines tell
+abbrev pub tells_end : Line → Bool
+tells_end (line.EpochEnd k e n) = true
+tells_end l = false
+
+abbrev pub ends_told : List Line → ℕ
+ends_told [] = 0
+ends_told (l ∷ earlier) = one_if (tells_end l) + ends_told earlier
+
+-- and how many events of them ended an epoch that lived
+abbrev pub ends_happened : Script → List Line → ℕ
+ends_happened s [] = 0
+ends_happened s (l ∷ earlier) = one_if (ends_epoch l (kept_of s earlier).history) + ends_happened s earlier
+
+-- each is told once, in its turn: while a turn has one to tell, that one is missing
+abbrev pub EndsAreTold : Type 0
+EndsAreTold = (s : Script) (lines : List Line) → are_followed s lines ≡ true → ends_told lines + one_if (is_some (kept_of s lines).turn.ended) ≡ ends_happened s lines
+
+-- the event that ended the epoch of this number
+abbrev pub ended_at : Script → ℕ → List Line → Option ℕ
+ended_at s e [] = None
+ended_at s e (l ∷ earlier) = if ends_epoch l (kept_of s earlier).history && ((kept_of s earlier).history.epoch == e) then Some ((kept_of s earlier).history.events + 1) else ended_at s e earlier
+
+-- an answer that an epoch ended names the event that ended it
+abbrev pub EndsAreNamed : Type 0
+EndsAreNamed = (s : Script) (lines : List Line) (a i e n : ℕ) (unsure : Bool) → are_followed s (line.Answered a i (answer.EpochEnded e n unsure) ∷ lines) ≡ true → ended_at s e lines ≡ Some n
 
 -- ---- what is kept
 

@@ -7,7 +7,7 @@ mod legality;
 mod progress;
 mod turns;
 
-pub use endings::{counters_are_at_most_lines, turns_end};
+pub use endings::{counters_are_at_most_lines, ends_are_named, ends_are_told, turns_end};
 pub use legality::{due_lines_are_legal, due_lines_are_performed, finished_runs_are_legal};
 pub use progress::{
     begun_operations_do_something, marks_leave_open, nobody_moves_once_finished,

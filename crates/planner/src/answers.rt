@@ -1,5 +1,5 @@
 // The answer that is due.
-ghost use Rattle.std.specs.Prelude.{◌≡◌, if◌then◌else◌, Some, None, false, IsOk, IfOk};
+ghost use Rattle.std.specs.Prelude.{◌≡◌, if◌then◌else◌, Some, None, Ok, true, false, is_some, IsOk, IfOk, IfSome};
 ghost use Rattle.std.specs.Option.{option_copied};
 ghost use Rattle.apdu.specs.Words.{or_else};
 ghost use Rattle.report.specs.declared.answer.Answer.TheVariants as answer;
@@ -7,9 +7,11 @@ ghost use Rattle.rules.specs.Due as rules;
 ghost use Rattle.rules.specs.Sessions.{has_session as has_session_of};
 ghost use Rattle.rules.specs.Standing.{board_of as board_shown};
 ghost use Rattle.rules.specs.Watching.{notices_of as notices_in};
-ghost use Rattle.planner.specs.Room.{is_decided, turn_is_decided};
+ghost use Rattle.editor.specs.Editing as edits;
+ghost use Rattle.planner.specs.Room.{AreLeft, AreLeftInTurn, is_decided, turn_is_decided};
 
 use crate::holdings::{handle_of, has_session};
+use crate::left::LeftRows;
 use crate::operations::operation_at;
 use crate::work::is_raw_ins;
 use adn::PlanError;
@@ -140,18 +142,22 @@ fn done_publication(begun: &Begun, turn: &Turn) -> Option<Option<u64>>
 }
 
 fn decided_answer(
-    alloc: Global,
+    left: &mut LeftRows,
     begun: &Begun,
     decided: &Decided,
     turn: &Turn,
 ) -> Result<Option<Answer>, Memory>
-    ensures { IfOk result (λ given. given
+    requires left { IfSome left.old.ready
+        (λ rows. rows ≡ edits.left_rows begun.now.editing decided.now) }
+    ensures value { IfOk result (λ given. given
         ≡ rules.decided_answer begun.now decided.now turn.now) }
+    ensures room { is_some left.old.ready ≡ true → IsOk result }
+    ensures kept { result ≡ Ok None → left.new ≡ left.old }
 {
     match done_publication(begun, turn) {
         None => Ok(None),
         Some(publication) => {
-            let left = begun.editing.left_rows(alloc, *decided)?;
+            let left = left.take(&begun.editing, *decided)?;
             Ok(Some(Answer::Done {
                 event: decided.event,
                 publication,
@@ -197,13 +203,16 @@ fn outcome_or_planning(turn: &Turn) -> Option<Answer>
     }
 }
 
-fn edit_answer(alloc: Global, begun: &Begun, turn: &Turn) -> Result<Option<Answer>, Memory>
+fn edit_answer(left: &mut LeftRows, begun: &Begun, turn: &Turn) -> Result<Option<Answer>, Memory>
+    requires left { AreLeft (Some begun.now) left.old.ready }
     ensures value { IfOk result (λ given. given
         ≡ rules.edit_answer begun.now turn.now begun.now.editing.decided) }
     ensures room { is_decided (Some begun.now) ≡ false → IsOk result }
+    ensures ready { is_some left.old.ready ≡ true → IsOk result }
+    ensures kept { result ≡ Ok None → left.new ≡ left.old }
 {
     match &begun.editing.decided {
-        Some(decided) => decided_answer(alloc, begun, decided, turn),
+        Some(decided) => decided_answer(left, begun, decided, turn),
         None => Ok(with_card(begun, outcome_or_planning(turn))),
     }
 }
@@ -300,16 +309,19 @@ fn end_answer(kept: &Kept, actor: u8, key: u8) -> Answer
 }
 
 fn answer_of(
-    alloc: Global,
+    left: &mut LeftRows,
     kept: &Kept,
     actor: u8,
     job: &Job,
     begun: &Begun,
     operation: &Operation,
 ) -> Result<Option<Answer>, Memory>
+    requires left { AreLeft (Some begun.now) left.old.ready }
     ensures value { IfOk result (λ given. given
         ≡ rules.answer_of kept.now actor job.now begun.now operation.now) }
     ensures room { is_decided (Some begun.now) ≡ false → IsOk result }
+    ensures ready { is_some left.old.ready ≡ true → IsOk result }
+    ensures kept { result ≡ Ok None → left.new ≡ left.old }
 {
     let turn = &kept.turn;
     match operation {
@@ -334,7 +346,7 @@ fn answer_of(
         })),
         Operation::Watch { .. } => Ok(Some(Answer::Watching)),
         Operation::Notices => Ok(Some(notices_of(&job.mailbox))),
-        Operation::Set { .. } | Operation::Clear { .. } => edit_answer(alloc, begun, turn),
+        Operation::Set { .. } | Operation::Clear { .. } => edit_answer(left, begun, turn),
     }
 }
 
@@ -342,6 +354,21 @@ fn answer_of(
 pub fn due_answer(alloc: Global, script: &Script, kept: &Kept) -> Result<Option<Answer>, Memory>
     ensures value { IfOk result (λ given. given ≡ rules.due_answer script.now kept.now) }
     ensures room { turn_is_decided kept.now.turn.actor kept.now.jobs ≡ false → IsOk result }
+{
+    answer_with(&mut LeftRows::new(alloc), script, kept)
+}
+
+/// The same, with the rows that an edit leaves marked.
+pub(crate) fn answer_with(
+    left: &mut LeftRows,
+    script: &Script,
+    kept: &Kept,
+) -> Result<Option<Answer>, Memory>
+    requires left { AreLeftInTurn kept.now.turn.actor kept.now.jobs left.old.ready }
+    ensures value { IfOk result (λ given. given ≡ rules.due_answer script.now kept.now) }
+    ensures room { turn_is_decided kept.now.turn.actor kept.now.jobs ≡ false → IsOk result }
+    ensures ready { is_some left.old.ready ≡ true → IsOk result }
+    ensures kept { result ≡ Ok None → left.new ≡ left.old }
 {
     let Some(actor) = kept.turn.actor else {
         return Ok(None);
@@ -354,6 +381,6 @@ pub fn due_answer(alloc: Global, script: &Script, kept: &Kept) -> Result<Option<
     };
     match operation_at(script, actor, begun.index) {
         None => Ok(None),
-        Some(operation) => answer_of(alloc, kept, actor, job, begun, operation),
+        Some(operation) => answer_of(left, kept, actor, job, begun, operation),
     }
 }

@@ -4,7 +4,7 @@ ghost use Rattle.report.specs.declared.line.Line.TheVariants as line;
 ghost use Rattle.rules.specs.After as rules;
 ghost use Rattle.rules.specs.Work as spec;
 ghost use Rattle.rules.specs.Kept.{operation_at as operation_in, operation_now as operation_of};
-ghost use Rattle.planner.specs.Room.{handles_fit, is_edit};
+ghost use Rattle.planner.specs.Room.{handles_fit, is_edit, is_new_attempt};
 
 use crate::edits::{EditPlans, work_of_clear, work_of_set};
 use crate::holdings::living_handle_of;
@@ -34,6 +34,7 @@ pub fn work_of_operation<P: EditPlans>(
     requires channels { handles_fit kept.now.handles ≡ true }
     ensures value { IfOk result (λ d. d
         ≡ spec.work_of_operation kept.now actor begun.now operation.now) }
+    ensures short { IfOk result (λ d. is_new_attempt d.attempt ≡ true) }
     ensures room { is_edit (Some operation.now) ≡ false → IsOk result }
 {
     match operation {
@@ -104,6 +105,7 @@ pub fn decision_at_turn<P: EditPlans>(
 ) -> Result<Decision, Memory>
     requires channels { handles_fit kept.now.handles ≡ true }
     ensures value { IfOk result (λ d. d ≡ rules.decision_at script.now (line.Turn actor) kept.now) }
+    ensures short { IfOk result (λ d. is_new_attempt d.attempt ≡ true) }
     ensures room { is_edit (operation_of script.now actor kept.now.jobs) ≡ false → IsOk result }
 {
     if actor == 0 {
@@ -130,6 +132,7 @@ pub fn decision_at_begin<P: EditPlans>(
     requires channels { handles_fit kept.now.handles ≡ true }
     ensures value { IfOk result (λ d. d
         ≡ rules.decision_at script.now (line.Begin actor op) kept.now) }
+    ensures short { IfOk result (λ d. is_new_attempt d.attempt ≡ true) }
     ensures room { is_edit (operation_in script.now actor op) ≡ false → IsOk result }
 {
     match operation_at(script, actor, op) {

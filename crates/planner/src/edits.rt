@@ -1,11 +1,13 @@
 // What a turn of an edit has to do.
-ghost use Rattle.std.specs.Prelude.{◌≡◌, ◌∷◌, ◌++◌, [], Some, filter_map, IfOk, OnOk};
+ghost use Rattle.std.specs.Prelude.{◌≡◌, ◌∷◌, ◌++◌, [], Some, true, filter_map, IfOk, OnOk};
+ghost use Rattle.std.specs.List.{list_all};
 ghost use Rattle.std.specs.Option.{option_copied};
 ghost use Rattle.adn.specs.declared.edit.Edit.TheVariants as edit_kind;
 ghost use Rattle.editor.specs.Editing as edits;
 ghost use Rattle.families.specs.Plans.{plan_updates, some_first};
 ghost use Rattle.rules.specs.Editing as rules;
 ghost use Rattle.rules.specs.Work as spec;
+ghost use Rattle.planner.specs.Room as room;
 
 use crate::access::{family_need, rule_path};
 use crate::holdings::{lacking_key, lives_in};
@@ -20,8 +22,11 @@ use std::alloc::Global;
 
 /// Plans the updates of rows by which an edit is made.
 pub trait EditPlans {
-    ghost use Rattle.std.specs.Prelude.{◌≡◌, IfOk};
+    ghost use Rattle.std.specs.Prelude.{◌≡◌, true, IfOk};
+    ghost use Rattle.std.specs.List.{list_all};
     ghost use Rattle.epoch_cache.specs.Cache.{view_of_files};
+    ghost use Rattle.families.specs.Plans.{plan_updates};
+    ghost use Rattle.planner.specs.Room.{is_short};
     ghost use Rattle.families.specs.Families.{family_plan};
 
     /// The plan of an edit of a family for what its current files hold, or why there is none.
@@ -32,8 +37,10 @@ pub trait EditPlans {
         edit: &Edit,
         files: &CachedFiles,
     ) -> Result<Result<Plan, PlanError>, Memory>
-        ensures { IfOk result (λ planned.
-            planned ≡ family_plan family edit.now (view_of_files files.now)) };
+        ensures value { IfOk result (λ planned.
+            planned ≡ family_plan family edit.now (view_of_files files.now)) }
+        ensures short { IfOk result (λ planned.
+            IfOk planned (λ plan. list_all is_short (plan_updates plan) ≡ true)) };
 }
 
 // ---- the paths of an edit
@@ -123,7 +130,9 @@ fn first_lack(kept: &Kept, actor: u8, family: u8, plan: &Plan) -> Option<u8>
 // ---- what it does
 
 fn begins_plan(kept: &Kept, actor: u8, family: u8, plan: Plan, paths: PathList) -> Decision
-    ensures { result ≡ spec.begins_plan kept.now actor family plan paths }
+    requires { list_all room.is_short (plan_updates plan) ≡ true }
+    ensures value { result ≡ spec.begins_plan kept.now actor family plan paths }
+    ensures short { room.is_new_attempt result.attempt ≡ true }
 {
     match first_lack(kept, actor, family, &plan) {
         Some(key) => decides(Work::Lacks(key)),
@@ -143,7 +152,8 @@ fn plans<P: EditPlans>(
     edit: &Edit,
     paths: PathList,
 ) -> Result<Decision, Memory>
-    ensures { IfOk result (λ d. d ≡ spec.plans kept.now actor family edit.now paths) }
+    ensures value { IfOk result (λ d. d ≡ spec.plans kept.now actor family edit.now paths) }
+    ensures short { IfOk result (λ d. room.is_new_attempt d.attempt ≡ true) }
 {
     match planner.plan(alloc, family, edit, &kept.files)? {
         Err(refusal) => Ok(decides(Work::Refuses(refusal))),
@@ -171,8 +181,9 @@ fn attempts<P: EditPlans>(
     attempt: Option<&Attempt>,
     paths: PathList,
 ) -> Result<Decision, Memory>
-    ensures { IfOk result (λ d. d ≡ spec.attempts kept.now actor family edit.now
+    ensures value { IfOk result (λ d. d ≡ spec.attempts kept.now actor family edit.now
         (option_copied attempt.entry) paths) }
+    ensures short { IfOk result (λ d. room.is_new_attempt d.attempt ≡ true) }
 {
     match attempt {
         Some(attempt) => Ok(decides(goes_on(attempt))),
@@ -190,8 +201,9 @@ fn undecided_work<P: EditPlans>(
     edit: &Edit,
     attempt: Option<&Attempt>,
 ) -> Result<Decision, Memory>
-    ensures { IfOk result (λ d. d ≡ spec.undecided_work kept.now actor family edit.now
+    ensures value { IfOk result (λ d. d ≡ spec.undecided_work kept.now actor family edit.now
         (option_copied attempt.entry)) }
+    ensures short { IfOk result (λ d. room.is_new_attempt d.attempt ≡ true) }
 {
     let paths = edit_paths(alloc, &kept.files, family)?;
     if let Some(path) = first_missing(&kept.files, paths.as_slice()) {
@@ -220,8 +232,9 @@ fn edit_work<P: EditPlans>(
     edit: &Edit,
     editing: &Editing,
 ) -> Result<Decision, Memory>
-    ensures { IfOk result (λ d. d
+    ensures value { IfOk result (λ d. d
         ≡ spec.edit_work kept.now actor family edit.now editing.now) }
+    ensures short { IfOk result (λ d. room.is_new_attempt d.attempt ≡ true) }
 {
     match editing.decided {
         None => undecided_work(
@@ -246,8 +259,9 @@ fn work_of_edit<P: EditPlans>(
     family: u8,
     edit: &Edit,
 ) -> Result<Decision, Memory>
-    ensures { IfOk result (λ d. d
+    ensures value { IfOk result (λ d. d
         ≡ spec.work_of_edit kept.now actor begun.now (Some (family, edit.now))) }
+    ensures short { IfOk result (λ d. room.is_new_attempt d.attempt ≡ true) }
 {
     if lives_in(kept.history, begun.epoch) {
         edit_work(alloc, planner, kept, actor, family, edit, &begun.editing)
@@ -268,8 +282,9 @@ pub fn work_of_set<P: EditPlans>(
     name: &Text,
     number: &Text,
 ) -> Result<Decision, Memory>
-    ensures { IfOk result (λ d. d ≡ spec.work_of_edit kept.now actor begun.now
+    ensures value { IfOk result (λ d. d ≡ spec.work_of_edit kept.now actor begun.now
         (Some (family, edit_kind.Set at (record { name = name.now; number = number.now })))) }
+    ensures short { IfOk result (λ d. room.is_new_attempt d.attempt ≡ true) }
 {
     let entry = AdnEntry {
         name: Text::from_str(alloc, name.as_str())?,
@@ -289,8 +304,9 @@ pub fn work_of_clear<P: EditPlans>(
     family: u8,
     at: u8,
 ) -> Result<Decision, Memory>
-    ensures { IfOk result (λ d. d
+    ensures value { IfOk result (λ d. d
         ≡ spec.work_of_edit kept.now actor begun.now (Some (family, edit_kind.Clear at))) }
+    ensures short { IfOk result (λ d. room.is_new_attempt d.attempt ≡ true) }
 {
     let edit = Edit::Clear { at };
     work_of_edit(alloc, planner, kept, actor, begun, family, &edit)

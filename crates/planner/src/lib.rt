@@ -9,6 +9,7 @@ mod edits;
 mod events;
 mod fits;
 mod holdings;
+mod left;
 mod next_line;
 mod open;
 mod operations;
@@ -20,7 +21,8 @@ pub use decisions::{decision_at_begin, decision_at_turn, work_of_operation};
 pub use edits::EditPlans;
 pub use events::{answer_of_refusal, due_event, slot_answer};
 pub use fits::{handles_fit, turn_fits};
-pub use next_line::due;
+pub use left::{LeftRows, left_rows};
+pub use next_line::{due, due_with};
 pub use open::{
     has_ended, has_operations_left, has_work, is_finished, is_idle, is_quiet, is_starting, waits_on,
 };

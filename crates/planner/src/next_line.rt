@@ -1,10 +1,11 @@
 // The line that is due next.
-ghost use Rattle.std.specs.Prelude.{◌≡◌, ◌≤◌, true, false, length, IsOk, IfOk};
+ghost use Rattle.std.specs.Prelude.{◌≡◌, ◌≤◌, true, false, is_some, length, IsOk, IfOk};
 ghost use Rattle.rules.specs.Due as rules;
-ghost use Rattle.planner.specs.Room.{turn_fits, turn_is_decided};
+ghost use Rattle.planner.specs.Room.{AreLeftInTurn, is_given, turn_fits, turn_is_decided};
 
-use crate::answers::due_answer;
+use crate::answers::answer_with;
 use crate::commands::{due_command, due_publication, is_reset_due, tried_event};
+use crate::left::LeftRows;
 use crate::open::{has_ended, waits_on};
 use crate::operations::{answered_of, begun_of};
 use apdu::Memory;
@@ -53,48 +54,61 @@ fn due_of_actor(script: &Script, kept: &Kept) -> Due
     }
 }
 
-fn due_by_answer(alloc: Global, script: &Script, kept: &Kept) -> Result<Due, Memory>
-    requires { length script.now.actors ≤ 254 }
+fn due_by_answer(left: &mut LeftRows, script: &Script, kept: &Kept) -> Result<Due, Memory>
+    requires actors { length script.now.actors ≤ 254 }
+    requires left { AreLeftInTurn kept.now.turn.actor kept.now.jobs left.old.ready }
     ensures value { IfOk result (λ line. line
         ≡ rules.due_by_answer script.now kept.now (rules.due_answer script.now kept.now)) }
     ensures room { turn_is_decided kept.now.turn.actor kept.now.jobs ≡ false → IsOk result }
+    ensures ready { is_some left.old.ready ≡ true → IsOk result }
+    ensures kept { IfOk result (λ line. is_given line ≡ false → left.new ≡ left.old) }
 {
-    match due_answer(alloc, script, kept)? {
+    match answer_with(left, script, kept)? {
         Some(answer) => Ok(Due::Give(answer)),
         None => Ok(due_of_actor(script, kept)),
     }
 }
 
-fn due_by_publication(alloc: Global, script: &Script, kept: &Kept) -> Result<Due, Memory>
-    requires { length script.now.actors ≤ 254 }
+fn due_by_publication(left: &mut LeftRows, script: &Script, kept: &Kept) -> Result<Due, Memory>
+    requires actors { length script.now.actors ≤ 254 }
+    requires left { AreLeftInTurn kept.now.turn.actor kept.now.jobs left.old.ready }
     ensures value { IfOk result (λ line. line
         ≡ rules.due_by_publication script.now kept.now (rules.due_publication kept.now)) }
     ensures room { turn_is_decided kept.now.turn.actor kept.now.jobs ≡ false → IsOk result }
+    ensures ready { is_some left.old.ready ≡ true → IsOk result }
+    ensures kept { IfOk result (λ line. is_given line ≡ false → left.new ≡ left.old) }
 {
     match due_publication(kept) {
         Some(family) => Ok(Due::Publish(family)),
-        None => due_by_answer(alloc, script, kept),
+        None => due_by_answer(left, script, kept),
     }
 }
 
-fn due_by_refusal(alloc: Global, script: &Script, kept: &Kept) -> Result<Due, Memory>
-    requires { length script.now.actors ≤ 254 }
+fn due_by_refusal(left: &mut LeftRows, script: &Script, kept: &Kept) -> Result<Due, Memory>
+    requires actors { length script.now.actors ≤ 254 }
+    requires left { AreLeftInTurn kept.now.turn.actor kept.now.jobs left.old.ready }
     ensures value { IfOk result (λ line. line
         ≡ rules.due_by_refusal script.now kept.now kept.now.turn.refused) }
     ensures room { turn_is_decided kept.now.turn.actor kept.now.jobs ≡ false → IsOk result }
+    ensures ready { is_some left.old.ready ≡ true → IsOk result }
+    ensures kept { IfOk result (λ line. is_given line ≡ false → left.new ≡ left.old) }
 {
     match kept.turn.refused {
         Some((family, event)) => Ok(Due::TellRefusal(family, event)),
-        None => due_by_publication(alloc, script, kept),
+        None => due_by_publication(left, script, kept),
     }
 }
 
-/// The line that the turn makes next, or how it rests.
-pub fn due(alloc: Global, script: &Script, kept: &Kept) -> Result<Due, Memory>
+/// The line that the turn makes next, or how it rests. Want of memory comes only where an edit is to be answered behind its deciding
+/// success, and the rows that it leaves marked were not made ready.
+pub fn due_with(left: &mut LeftRows, script: &Script, kept: &Kept) -> Result<Due, Memory>
     requires actors { length script.now.actors ≤ 254 }
     requires updates { turn_fits kept.now.turn.actor kept.now.jobs ≡ true }
+    requires left { AreLeftInTurn kept.now.turn.actor kept.now.jobs left.old.ready }
     ensures value { IfOk result (λ line. line ≡ rules.due script.now kept.now) }
     ensures room { turn_is_decided kept.now.turn.actor kept.now.jobs ≡ false → IsOk result }
+    ensures ready { is_some left.old.ready ≡ true → IsOk result }
+    ensures kept { IfOk result (λ line. is_given line ≡ false → left.new ≡ left.old) }
 {
     if let Some((epoch, event)) = kept.turn.ended {
         return Ok(Due::TellEnd(epoch, event));
@@ -108,5 +122,15 @@ pub fn due(alloc: Global, script: &Script, kept: &Kept) -> Result<Due, Memory>
     if let Some(event) = tried_event(kept) {
         return Ok(Due::TryEvent(event));
     }
-    due_by_refusal(alloc, script, kept)
+    due_by_refusal(left, script, kept)
+}
+
+/// The same where nothing was made ready.
+pub fn due(alloc: Global, script: &Script, kept: &Kept) -> Result<Due, Memory>
+    requires actors { length script.now.actors ≤ 254 }
+    requires updates { turn_fits kept.now.turn.actor kept.now.jobs ≡ true }
+    ensures value { IfOk result (λ line. line ≡ rules.due script.now kept.now) }
+    ensures room { turn_is_decided kept.now.turn.actor kept.now.jobs ≡ false → IsOk result }
+{
+    due_with(&mut LeftRows::new(alloc), script, kept)
 }

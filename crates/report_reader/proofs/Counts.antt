@@ -1,5 +1,5 @@
 -- Lists of fewer or more words than are read.
-use Rattle.std.proofs.Common.{◌≡◌, ◌≢◌, get_or, ℕ, Bool, ◌<◌, ◌≤◌, List, [], ◌∷◌, length, Result, Err, Option, None, refl, arith}
+use Rattle.std.proofs.Common.{◌≡◌, ◌≢◌, get_or, ℕ, Bool, ◌<◌, ◌≤◌, List, [], ◌∷◌, length, Err, Option, None, refl, arith}
 use denote.Ref.{Bor}
 use Rattle.script_reader.specs.declared.types.Script.{Script}
 use Rattle.report.specs.declared.line.Line.{Line}

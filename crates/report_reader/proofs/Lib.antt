@@ -2,3 +2,17 @@ mod Lists
 mod Counts
 mod Contents
 mod Steps
+mod Parts
+mod Readings
+mod Numbers
+mod Bytes
+mod Json
+mod Fields
+mod AnswersBack
+mod LinesBack
+mod OneLine
+mod ReportsBack
+mod AnswersSpelled
+mod LinesSpelled
+mod ReportsSpelled
+mod Places

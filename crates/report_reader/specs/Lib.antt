@@ -4,3 +4,6 @@ pub mod Content
 pub mod Answers
 pub mod Lines
 pub mod Reports
+pub mod Ranges
+pub mod Forms
+pub mod Laws

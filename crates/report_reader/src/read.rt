@@ -1,5 +1,9 @@
 // A report from its bytes.
-ghost use Rattle.std.specs.Prelude.{[]};
+ghost use Rattle.std.specs.Prelude.{◌≡◌, ℕ, [], true, Err, IfOk};
+ghost use Rattle.script_reader.specs.Rules.{keeps_rules};
+ghost use Rattle.report.specs.Texts.{report_text};
+ghost use Rattle.report_reader.specs.Forms.{IsReport};
+ghost use Rattle.report_reader.specs.Laws.{IsFirst};
 ghost use Rattle.report_reader.specs.Reads.{ReadsAs, AnswersAs, ChangesTo, texts};
 ghost use Rattle.report_reader.specs.Reports as spec;
 
@@ -12,7 +16,8 @@ use std::alloc::Global;
 
 /// The script, if these bytes are its text.
 fn script_of(alloc: Global, bytes: &[u8]) -> Result<Script, LineError>
-    ensures { ReadsAs (spec.script_of bytes.now) result }
+    ensures value { ReadsAs (spec.script_of bytes.now) result }
+    ensures rules { IfOk result (λ script. keeps_rules script ≡ true) }
 {
     match read_script(alloc, bytes) {
         Ok(script) => {
@@ -26,7 +31,8 @@ fn script_of(alloc: Global, bytes: &[u8]) -> Result<Script, LineError>
 }
 
 fn script_line(alloc: Global, line: &[u8]) -> Result<Script, LineError>
-    ensures { ReadsAs (spec.script_line line.now) result }
+    ensures value { ReadsAs (spec.script_line line.now) result }
+    ensures rules { IfOk result (λ script. keeps_rules script ≡ true) }
 {
     if is_word(first_word(line), "script") {
         script_of(alloc, behind_word(line))
@@ -103,7 +109,8 @@ fn lines_of(alloc: Global, script: &Script, parts: &[&[u8]]) -> Result<Lines, Re
 }
 
 fn script_part(alloc: Global, line: &[u8]) -> Result<Script, ReportError>
-    ensures { AnswersAs (spec.script_part line.now) result }
+    ensures value { AnswersAs (spec.script_part line.now) result }
+    ensures rules { IfOk result (λ script. keeps_rules script ≡ true) }
 {
     match script_line(alloc, line) {
         Ok(script) => Ok(script),
@@ -133,7 +140,8 @@ fn mode_part(line: &[u8], behind: &[&[u8]]) -> Result<Mode, ReportError>
 
 #[tactic(auto, using(crate::proofs::Counts::few_parts))]
 fn report_of_parts(alloc: Global, parts: &[&[u8]]) -> Result<Report, ReportError>
-    ensures { AnswersAs (spec.report_of_parts (texts parts.now)) result }
+    ensures value { AnswersAs (spec.report_of_parts (texts parts.now)) result }
+    ensures rules { IfOk result (λ report. keeps_rules report.script ≡ true) }
 {
     let [first, second, behind @ ..] = parts else {
         return Err(ReportError::Refused { line: 1 });
@@ -150,7 +158,10 @@ fn report_of_parts(alloc: Global, parts: &[&[u8]]) -> Result<Report, ReportError
 
 /// The report of which the bytes are the text, or the first line that has no place.
 pub fn read_report(alloc: Global, bytes: &[u8]) -> Result<Report, ReportError>
-    ensures { AnswersAs (spec.report_of bytes.now) result }
+    ensures value { AnswersAs (spec.report_of bytes.now) result }
+    ensures rules { IfOk result (λ report. keeps_rules report.script ≡ true) }
+    ensures text { IfOk result (λ report. IsReport report × (report_text report ≡ bytes.now)) }
+    ensures refused { (n : ℕ) → result ≡ Err (ReportError.Refused n) → IsFirst n bytes.now }
 {
     let parts = parts_of(alloc, b'\n', bytes)?;
     report_of_parts(alloc, parts.as_slice())

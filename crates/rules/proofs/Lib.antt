@@ -31,3 +31,4 @@ mod Told
 mod Wellformed
 mod Planned
 mod Agree
+pub mod Stays

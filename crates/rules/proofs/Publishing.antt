@@ -64,11 +64,11 @@ rest_and : (a b : Bool) → a && b ≡ true → b ≡ true
 rest_and true b h = h
 rest_and false b h = absurd (cc)
 
-book_same : (a b c d : Content) → a ≡ c → b ≡ d → compact_text (book_data a b) ≡ compact_text (book_data c d)
+pub book_same : (a b c d : Content) → a ≡ c → b ≡ d → compact_text (book_data a b) ≡ compact_text (book_data c d)
 book_same a b c d main ext = ap (λ (x : Content). compact_text (book_data x b)) main ∙ ap (λ (x : Content). compact_text (book_data c x)) ext
 
 module _ (v w : View) where
-  records_same : v ad_path ≡ w ad_path → v dir_path ≡ w dir_path → v iccid_path ≡ w iccid_path → v imsi_path ≡ w imsi_path → v msisdn_path ≡ w msisdn_path → v ext5_path ≡ w ext5_path → v spn_path ≡ w spn_path → shown 0 v ≡ shown 0 w
+  pub records_same : v ad_path ≡ w ad_path → v dir_path ≡ w dir_path → v iccid_path ≡ w iccid_path → v imsi_path ≡ w imsi_path → v msisdn_path ≡ w msisdn_path → v ext5_path ≡ w ext5_path → v spn_path ≡ w spn_path → shown 0 v ≡ shown 0 w
   records_same ad dir iccid imsi msisdn ext5 spn =
       ap (λ (x : Content). compact_text (records_data x (v dir_path) (v iccid_path) (v imsi_path) (v msisdn_path) (v ext5_path) (v spn_path))) ad
       ∙ ap (λ (x : Content). compact_text (records_data (w ad_path) x (v iccid_path) (v imsi_path) (v msisdn_path) (v ext5_path) (v spn_path))) dir

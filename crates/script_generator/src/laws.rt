@@ -16,6 +16,14 @@ pub fn draws_of_one()
         ++ replicate 7 0xFF) }
 {}
 
+/// The first draws of seed 7: its first row is an entry, whose number begins 684.
+pub fn draws_of_seven()
+    ensures first { draw 7 1 ≡ 19564 }
+    ensures second { draw 7 2 ≡ 9806 }
+    ensures third { draw 7 3 ≡ 10868 }
+    ensures fourth { draw 7 4 ≡ 22674 }
+{}
+
 /// The work of the script of one load.
 #[tactic(auto, unfolding(crate::specs::Working::whole_reading, crate::specs::Working::disturbances_of))]
 pub fn work_of_one_load()

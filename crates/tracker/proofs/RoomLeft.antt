@@ -59,11 +59,11 @@ answered_fits (Some (f, ed)) selected event c r e fits = updated_fits (is_update
 
 one_sent_fits : (a : Option Attempt) → attempt_has_room a ≡ true → attempt_fits (option_map (λ (a : Attempt). record a { sent = a.sent + 1 }) a) ≡ true
 one_sent_fits None e = refl
-one_sent_fits (Some a) e = rest_passes (nat_lt (a.sent + 1) (2 ^ 8)) (attempt_fits (Some a)) e
+one_sent_fits (Some a) e = rest_passes (nat_lt (a.sent + 1) (2 ^ 64)) (attempt_fits (Some a)) e
 
 room_fits : (a : Option Attempt) → attempt_has_room a ≡ true → attempt_fits a ≡ true
 room_fits None e = refl
-room_fits (Some a) e = rest_passes (nat_lt (a.sent + 1) (2 ^ 8)) (attempt_fits (Some a)) e
+room_fits (Some a) e = rest_passes (nat_lt (a.sent + 1) (2 ^ 64)) (attempt_fits (Some a)) e
 
 update_sent_fits : (update : Bool) (e : Editing) → attempt_has_room e.attempt ≡ true → attempt_fits (if update then sent_update e else e).attempt ≡ true
 update_sent_fits true e room = one_sent_fits e.attempt room

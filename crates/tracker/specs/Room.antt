@@ -37,7 +37,7 @@ begun_fits (Some b) = attempt_fits b.editing.attempt
 -- and the number of updates that were sent has room for one more
 abbrev pub attempt_has_room : Option Attempt → Bool
 attempt_has_room None = true
-attempt_has_room (Some a) = nat_lt (a.sent + 1) (2 ^ 8) && attempt_fits (Some a)
+attempt_has_room (Some a) = nat_lt (a.sent + 1) (2 ^ 64) && attempt_fits (Some a)
 
 abbrev pub begun_has_room : Option Begun → Bool
 begun_has_room None = true

@@ -58,7 +58,7 @@ fn attempt_has_room(attempt: &Option<Attempt>) -> bool
 {
     match attempt {
         None => true,
-        Some(attempt) => attempt.sent < u8::MAX && updates_fit(&attempt.plan),
+        Some(attempt) => attempt.sent < u64::MAX && updates_fit(&attempt.plan),
     }
 }
 

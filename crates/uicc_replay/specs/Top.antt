@@ -1,7 +1,6 @@
 -- How a call of the program ends: its statuses, what each writes, and the cause of each.
-use Rattle.std.specs.Prelude.{◌≡◌, ◌⊎◌, ℕ, ◌==◌, List, [], ◌∷◌, ◌++◌, codes, decimal, Result, Ok, Err, Option, Some, None, true, false, Bool, String, string_bytes, if◌then◌else◌}
-use Rattle.std.specs.declared.alloc.Global.{Global}
-use Rattle.apdu.specs.Words.{same_bytes, is_one_of}
+use Rattle.std.specs.Prelude.{◌≡◌, ◌⊎◌, ℕ, ◌==◌, List, [], ◌∷◌, ◌++◌, codes, decimal, Result, Ok, Err, Option, Some, None, IsSomeAnd, true, false, Bool, if◌then◌else◌}
+use Rattle.apdu.specs.Words.{is_one_of}
 use Rattle.apdu.specs.Stream.{Rose, AppendsPart}
 use Rattle.apdu.specs.declared.texts.Text.{Text}
 use Rattle.apdu.specs.declared.memory.Memory.{Memory as MemoryError}
@@ -9,22 +8,18 @@ use Rattle.script_reader.specs.declared.types.Script.{Script}
 use Rattle.script_reader.specs.Reading.{Refusal}
 use Rattle.script_reader.specs.Words.{part_word, why_word}
 use Rattle.script_reader.specs.Scripts.{script_of_bytes}
+use Rattle.script_writer.specs.Writing.{script_text}
+use Rattle.script_generator.specs.Generated.{generated}
 use Rattle.streams.specs.Streams.{SourceValue, SinkValue, StreamsValue, HasMore, IsRead, WritesWhole, WritesFront, Wrote}
 use Rattle.report.specs.declared.lines.Report.{Report}
 use Rattle.report.specs.Texts.{report_text}
 use Rattle.performed.specs.Served.{serves}
 use Rattle.uicc_replay.specs.Replay.{IsReplay, IsSpent}
 use Rattle.uicc_replay.specs.declared.top.Ending.{Ending}
-use Rattle.uicc_replay.specs.declared.top.Ending.TheVariants.{Usage, TooLong, Refused, ReadFault, Spent, Memory, Replayed}
+use Rattle.uicc_replay.specs.declared.top.Ending.TheVariants.{Usage, TooLong, Refused, ReadFault, Spent, Memory, Replayed, Generated}
 use Rattle.uicc_replay.specs.declared.top.Outcome.{Outcome}
-
--- ---- the words
-
--- the words are the one word `replay`
-abbrev pub is_replay : List (String Global) → Bool
-is_replay [] = false
-is_replay (word ∷ []) = same_bytes (string_bytes word) (codes "replay")
-is_replay (word ∷ other ∷ words) = false
+use Rattle.uicc_replay.specs.declared.words.Subcommand.{Subcommand}
+use Rattle.uicc_replay.specs.declared.words.Subcommand.TheVariants.{Replay, Generate}
 
 -- ---- what is written
 
@@ -45,6 +40,10 @@ refused_line r = codes "refused " ++ part_word r.part ++ codes " " ++ decimal r.
 abbrev pub budget_line : ℕ → List ℕ
 budget_line events = codes "budget " ++ decimal events ++ codes "\n"
 
+-- the script of a seed and a size, and a newline
+unfoldable pub generated_text : ℕ → ℕ → List ℕ
+generated_text seed size = script_text (generated seed size) ++ codes "\n"
+
 unfoldable pub read_fault_line : List ℕ
 read_fault_line = codes "read fault\n"
 
@@ -60,9 +59,11 @@ line_of status =
     else if status == 9 then Some memory_line
     else None
 
--- the statuses that the program has
-abbrev pub is_status : ℕ → Bool
-is_status status = is_one_of status (0 ∷ 2 ∷ 3 ∷ 4 ∷ 5 ∷ 6 ∷ 8 ∷ 9 ∷ [])
+-- the statuses that the words can come to
+abbrev pub is_status : Option Subcommand → ℕ → Bool
+is_status None status = is_one_of status (2 ∷ 5 ∷ [])
+is_status (Some Replay) status = is_one_of status (0 ∷ 3 ∷ 4 ∷ 5 ∷ 6 ∷ 8 ∷ 9 ∷ [])
+is_status (Some (Generate seed size)) status = is_one_of status (0 ∷ 5 ∷ 9 ∷ [])
 
 abbrev pub piece_of : Ending → List ℕ
 piece_of Usage = usage_line
@@ -72,6 +73,7 @@ piece_of ReadFault = read_fault_line
 piece_of (Spent line) = line
 piece_of Memory = memory_line
 piece_of (Replayed report text) = text
+piece_of (Generated text) = text
 
 abbrev pub status_of : Ending → ℕ
 status_of Usage = 2
@@ -81,6 +83,7 @@ status_of ReadFault = 4
 status_of (Spent line) = 6
 status_of Memory = 9
 status_of (Replayed report text) = 0
+status_of (Generated text) = 0
 
 abbrev pub report_of : Ending → Option Report
 report_of Usage = None
@@ -90,6 +93,7 @@ report_of ReadFault = None
 report_of (Spent line) = None
 report_of Memory = None
 report_of (Replayed report text) = Some report
+report_of (Generated text) = None
 
 -- ---- reading
 
@@ -132,6 +136,7 @@ IsDueOfBudget events ReadFault = ⊥
 IsDueOfBudget events (Spent line) = line ≡ budget_line events
 IsDueOfBudget events Memory = Unit {0}
 IsDueOfBudget events (Replayed report text) = ⊥
+IsDueOfBudget events (Generated text) = ⊥
 
 -- the ending of a report
 abbrev pub IsDueOfReport : Report → Ending → Type 0
@@ -142,6 +147,7 @@ IsDueOfReport r ReadFault = ⊥
 IsDueOfReport r (Spent line) = ⊥
 IsDueOfReport r Memory = Unit {0}
 IsDueOfReport r (Replayed report text) = (report ≡ r) × (text ≡ report_text report)
+IsDueOfReport r (Generated text) = ⊥
 
 -- the ending of a script
 abbrev pub IsDueOfScript : Script → Ending → Type 0
@@ -152,6 +158,7 @@ IsDueOfScript s ReadFault = ⊥
 IsDueOfScript s (Spent line) = TellsSpent s line
 IsDueOfScript s Memory = Unit {0}
 IsDueOfScript s (Replayed report text) = (report.script ≡ s) × IsReplay report × (text ≡ report_text report)
+IsDueOfScript s (Generated text) = ⊥
 
 -- the bytes are a script, and the line tells by how many events its budget is spent
 pub record TellsSpentOf (bytes line : List ℕ) : Type 0 where
@@ -168,6 +175,7 @@ IsDueOfBytes bytes ReadFault = ⊥
 IsDueOfBytes bytes (Spent line) = TellsSpentOf bytes line
 IsDueOfBytes bytes Memory = Unit {0}
 IsDueOfBytes bytes (Replayed report text) = (script_of_bytes bytes ≡ Ok report.script) × IsReplay report × (text ≡ report_text report)
+IsDueOfBytes bytes (Generated text) = ⊥
 
 -- bytes were read of which this is the ending
 pub record IsDueOfRead (before after : SourceValue) (e : Ending) : Type 0 where
@@ -175,7 +183,7 @@ pub record IsDueOfRead (before after : SourceValue) (e : Ending) : Type 0 where
   pub read : IsRead script_limit before after bytes
   pub due : IsDueOfBytes bytes e
 
--- the cause of each ending where the words are the command
+-- the cause of each ending of a replay
 abbrev pub IsDueOfSource : SourceValue → SourceValue → Ending → Type 0
 IsDueOfSource before after Usage = ⊥
 IsDueOfSource before after TooLong = HasMore script_limit before after
@@ -184,6 +192,23 @@ IsDueOfSource before after ReadFault = Rose before.faults after.faults
 IsDueOfSource before after (Spent line) = IsDueOfRead before after (Spent line)
 IsDueOfSource before after Memory = Unit {0}
 IsDueOfSource before after (Replayed report text) = IsDueOfRead before after (Replayed report text)
+IsDueOfSource before after (Generated text) = ⊥
+
+-- the ending of a generated script
+abbrev pub IsDueOfSizes : ℕ → ℕ → Ending → Type 0
+IsDueOfSizes seed size Usage = ⊥
+IsDueOfSizes seed size TooLong = ⊥
+IsDueOfSizes seed size (Refused line) = ⊥
+IsDueOfSizes seed size ReadFault = ⊥
+IsDueOfSizes seed size (Spent line) = ⊥
+IsDueOfSizes seed size Memory = Unit {0}
+IsDueOfSizes seed size (Replayed report text) = ⊥
+IsDueOfSizes seed size (Generated text) = text ≡ generated_text seed size
+
+-- a script is generated, and nothing is read
+pub record IsGenerated (seed size : ℕ) (before after : SourceValue) (e : Ending) : Type 0 where
+  pub due : IsDueOfSizes seed size e
+  pub unread : after ≡ before
 
 -- words that are no command read nothing
 pub record IsUsage (before after : SourceValue) (e : Ending) : Type 0 where
@@ -191,9 +216,10 @@ pub record IsUsage (before after : SourceValue) (e : Ending) : Type 0 where
   pub unread : after ≡ before
 
 -- the cause of each ending, of the words and of what the source was before and after
-abbrev pub IsDue : Bool → SourceValue → SourceValue → Ending → Type 0
-IsDue true before after e = IsDueOfSource before after e
-IsDue false before after e = IsUsage before after e
+abbrev pub IsDue : Option Subcommand → SourceValue → SourceValue → Ending → Type 0
+IsDue None before after e = IsUsage before after e
+IsDue (Some Replay) before after e = IsDueOfSource before after e
+IsDue (Some (Generate seed size)) before after e = IsGenerated seed size before after e
 
 -- ---- what a call did
 
@@ -204,6 +230,17 @@ pub record IsReplayed (before after : StreamsValue) (r : Report) : Type 0 where
   pub script : script_of_bytes bytes ≡ Ok r.script
   pub replay : IsReplay r
   pub text : Wrote before after (report_text r)
+
+-- the generated script was written, and there is no report
+pub record WroteScript (seed size : ℕ) (before after : StreamsValue) (r : Option Report) : Type 0 where
+  pub report : r ≡ None
+  pub text : Wrote before after (generated_text seed size)
+
+-- what was done where all went well
+abbrev pub IsDone : Option Subcommand → StreamsValue → StreamsValue → Option Report → Type 0
+IsDone None before after r = ⊥
+IsDone (Some Replay) before after r = IsSomeAnd r (IsReplayed before after)
+IsDone (Some (Generate seed size)) before after r = WroteScript seed size before after r
 
 -- the line was written that tells why the bytes that were read are not replayed
 pub record IsRefused (before after : StreamsValue) : Type 0 where
@@ -222,9 +259,9 @@ pub record IsBudgetSpent (before after : StreamsValue) : Type 0 where
   pub text : Wrote before after line
 
 -- a front was written of what an ending writes whose cause stood
-pub record WritesPart (replay : Bool) (before after : StreamsValue) : Type 0 where
+pub record WritesPart (command : Option Subcommand) (before after : StreamsValue) : Type 0 where
   pub ending : Ending
-  pub due : IsDue replay before.source after.source ending
+  pub due : IsDue command before.source after.source ending
   pub part : AppendsPart before.sink.written after.sink.written (piece_of ending)
 
 -- ---- writing

@@ -4,6 +4,7 @@
 mod replay;
 mod text;
 mod top;
+mod words;
 
 use apdu::{ReaderSource, WriterSink};
 use std::process::ExitCode;

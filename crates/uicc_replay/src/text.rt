@@ -1,11 +1,12 @@
-// The lines that tell why bytes are not replayed to their end.
-ghost use Rattle.std.specs.Prelude.{◌≡◌, ◌++◌, decimal, OnOk, IfOk};
+// What is written but reports: the lines that tell why bytes are not replayed to their end, and a generated script.
+ghost use Rattle.std.specs.Prelude.{◌≡◌, ◌≤◌, ◌++◌, decimal, OnOk, IfOk};
 ghost use Rattle.report.specs.Texts.{Puts};
 ghost use Rattle.script_reader.specs.Reading.{refusal};
-ghost use Rattle.uicc_replay.specs.Top.{refused_line, budget_line};
+ghost use Rattle.uicc_replay.specs.Top.{refused_line, budget_line, generated_text};
 
-use apdu::{Memory, Text};
-use script::{Part, Why};
+use apdu::{Bytes, Memory, Text};
+use script::{Part, Why, write_script};
+use script_generator::generate;
 use std::alloc::Global;
 
 fn put(out: &mut String, text: &str) -> Result<(), Memory>
@@ -45,4 +46,18 @@ pub fn budget_text(alloc: Global, events: u64) -> Result<Text, Memory>
     put_numbered(alloc, &mut out, "budget ", events)?;
     put(&mut out, "\n")?;
     Ok(Text::from_string(out))
+}
+
+/// The script of a seed and a size, and a newline.
+#[tactic(auto, unfolding(crate::specs::Top::generated_text))]
+pub fn generated_text(alloc: Global, seed: u32, size: u16) -> Result<Bytes, Memory>
+    requires some { 1 ≤ size }
+    requires few { size ≤ 250 }
+    ensures { IfOk result (λ text. text ≡ generated_text seed size) }
+{
+    let script = generate(alloc, seed, size)?;
+    let text = write_script(alloc, &script)?;
+    let mut out = Bytes::from_slice(alloc, text.as_str().as_bytes())?;
+    out.extend_from_slice(b"\n")?;
+    Ok(out)
 }

@@ -1,12 +1,14 @@
 // All that the program does, over any source and sink.
-ghost use Rattle.std.specs.Prelude.{◌≡◌, ◌≢◌, ◌⊎◌, true, false, IsTrue, IsSomeAnd, IfSome, None};
+ghost use Rattle.std.specs.Prelude.{◌≡◌, ◌≢◌, ◌≤◌, true, false, IsTrue, IfSome, None};
 ghost use Rattle.apdu.specs.Stream.{Rose};
 ghost use Rattle.streams.specs.Streams.{HasMore, Wrote};
 ghost use Rattle.script_reader.specs.Rules.{keeps_rules};
-ghost use Rattle.uicc_replay.specs.Top.{is_replay, line_of, is_status, script_limit, IsDue, IsDueOfBytes, IsDueOfScript, IsDueOfReport, IsDueOfBudget, IsDueOfLine, IsRefused, IsReplayed, IsBudgetSpent, WritesPart, Writes, Ends};
+ghost use Rattle.uicc_replay.specs.Words.{subcommand_of, reads};
+ghost use Rattle.uicc_replay.specs.Top.{line_of, is_status, script_limit, IsDue, IsDueOfSource, IsDueOfBytes, IsDueOfScript, IsDueOfReport, IsDueOfBudget, IsDueOfLine, IsDueOfSizes, IsDone, IsRefused, IsBudgetSpent, WritesPart, Writes, Ends};
 
 use crate::replay::{Replayed, replay};
-use crate::text::{budget_text, refused_text};
+use crate::text::{budget_text, generated_text, refused_text};
+use crate::words::{Subcommand, subcommand_of};
 use apdu::{Bytes, Memory, Sink, Source, Text};
 use hub::serves;
 use report::{Report, write_report};
@@ -38,6 +40,8 @@ pub enum Ending {
     Memory,
     /// The script was replayed; this is the report and its text.
     Replayed { report: Report, text: Bytes },
+    /// The script was generated; this is its text.
+    Generated { text: Bytes },
 }
 
 /// The most bytes that a script may have.
@@ -45,15 +49,6 @@ fn script_limit() -> usize
     ensures { result ≡ script_limit }
 {
     8_388_608
-}
-
-fn is_replay_word(words: &[String]) -> bool
-    ensures { result ≡ is_replay words.now }
-{
-    match words {
-        [word] => word.as_str() == "replay",
-        _ => false,
-    }
 }
 
 /// The ending of bytes that are not replayed, with the line that tells why.
@@ -115,23 +110,44 @@ fn ending_of_bytes(alloc: Global, bytes: &[u8]) -> Ending
     }
 }
 
+/// The ending of the script of a seed and a size.
+fn ending_of_sizes(alloc: Global, seed: u32, size: u16) -> Ending
+    requires some { 1 ≤ size }
+    requires few { size ≤ 250 }
+    ensures { IsDueOfSizes seed size result }
+{
+    match generated_text(alloc, seed, size) {
+        Ok(text) => Ending::Generated { text },
+        Err(_) => Ending::Memory,
+    }
+}
+
+/// How a replay ends.
+fn ending_of_source<S: Source, K: Sink>(alloc: Global, streams: &mut Streams<S, K>) -> Ending
+    ensures due { IsDueOfSource streams.old.source streams.new.source result }
+    ensures sink { streams.new.sink ≡ streams.old.sink }
+{
+    match read_all(alloc, script_limit(), streams) {
+        Ok(Input::All(bytes)) => ending_of_bytes(alloc, bytes.as_slice()),
+        Ok(Input::TooLong) => Ending::TooLong,
+        Ok(Input::Fault) => Ending::ReadFault,
+        Err(_) => Ending::Memory,
+    }
+}
+
 /// How the call ends.
 fn ending_of<S: Source, K: Sink>(
     alloc: Global,
     words: &[String],
     streams: &mut Streams<S, K>,
 ) -> Ending
-    ensures due { IsDue (is_replay words.now) streams.old.source streams.new.source result }
+    ensures due { IsDue (subcommand_of words.now) streams.old.source streams.new.source result }
     ensures sink { streams.new.sink ≡ streams.old.sink }
 {
-    if !is_replay_word(words) {
-        return Ending::Usage;
-    }
-    match read_all(alloc, script_limit(), streams) {
-        Ok(Input::All(bytes)) => ending_of_bytes(alloc, bytes.as_slice()),
-        Ok(Input::TooLong) => Ending::TooLong,
-        Ok(Input::Fault) => Ending::ReadFault,
-        Err(_) => Ending::Memory,
+    match subcommand_of(words) {
+        Some(Subcommand::Replay) => ending_of_source(alloc, streams),
+        Some(Subcommand::Generate { seed, size }) => ending_of_sizes(alloc, seed, size),
+        None => Ending::Usage,
     }
 }
 
@@ -175,42 +191,46 @@ fn write_ending<S: Source, K: Sink>(streams: &mut Streams<S, K>, ending: Ending)
         Ending::Replayed { report, text } => {
             write_piece(streams, 0, Some(report), text.as_slice())
         }
+        Ending::Generated { text } => write_piece(streams, 0, None, text.as_slice()),
     }
 }
 
-/// All that the program does, where the words are the one word `replay`: it reads a script to its end,
+/// All that the program does. Where the words are the one word `replay`, it reads a script to its end,
 /// runs it over simulated cards, in the order of its schedule and then round, and writes the report of
 /// the run, which is legal. Status 0 says so: the source's bytes are a script, the report that is handed
 /// out is of that script and of mode replay, it breaks no rule, none of its turns began once the budget
-/// was spent, and its text was written whole. Each other status says what stood in the way, and its
-/// line was written: bytes that are no script, or a script of what is not served so far (3), a run that
-/// spent its budget before it was finished (6), more bytes than a script may have (8), words that are
-/// no command (2), a source (4) or a sink (5) that failed, or want of memory (9).
+/// was spent, and its text was written whole. Where the words are `gen`, a seed and a size, it reads
+/// nothing, and at status 0 the generated script was written whole. Each other status says what stood in
+/// the way, and its line was written: bytes that are no script, or a script of what is not served so far
+/// (3), a run that spent its budget before it was finished (6), more bytes than a script may have (8),
+/// words that are no command (2), a source (4) or a sink (5) that failed, or want of memory (9).
 pub fn top<S: Source, K: Sink>(
     alloc: Global,
     words: &[String],
     streams: &mut Streams<S, K>,
 ) -> Outcome
     // What each status says. 0: the report is the legal replay of all the source's bytes, and its
-    // text was written. 6: a legal run of them has the budget's events, and is not finished.
+    // text was written, or a generated script was. 6: a legal run of the bytes has the budget's
+    // events, and is not finished.
     ensures done { result.status ≡ 0
-        → IsSomeAnd result.report (IsReplayed streams.old streams.new) }
-    ensures usage { result.status ≡ 2 → is_replay words.now ≡ false }
+        → IsDone (subcommand_of words.now) streams.old streams.new result.report }
+    ensures usage { result.status ≡ 2 → subcommand_of words.now ≡ None }
     ensures refused { result.status ≡ 3 → IsRefused streams.old streams.new }
     ensures read { result.status ≡ 4 → Rose streams.old.source.faults streams.new.source.faults }
     ensures write { result.status ≡ 5 → Rose streams.old.sink.faults streams.new.sink.faults }
     ensures spent { result.status ≡ 6 → IsBudgetSpent streams.old streams.new }
     ensures too_long { result.status ≡ 8
         → HasMore script_limit streams.old.source streams.new.source }
-    ensures known { IsTrue (is_status result.status) }
 
-    // Words that are no command end in one of two ways, and read nothing.
-    ensures other_words { is_replay words.now ≡ false → (result.status ≡ 2) ⊎ (result.status ≡ 5) }
-    ensures unread { is_replay words.now ≡ false → streams.new.source ≡ streams.old.source }
+    // The statuses of each command; words that are none end in 2 or 5. Only a replay reads.
+    ensures known { IsTrue (is_status (subcommand_of words.now) result.status) }
+    ensures unread { reads (subcommand_of words.now) ≡ false
+        → streams.new.source ≡ streams.old.source }
 
     // What is written, and that a report is handed out at status 0 alone.
     ensures line { IfSome (line_of result.status) (Wrote streams.old streams.new) }
-    ensures part { result.status ≡ 5 → WritesPart (is_replay words.now) streams.old streams.new }
+    ensures part { result.status ≡ 5
+        → WritesPart (subcommand_of words.now) streams.old streams.new }
     ensures report { result.status ≢ 0 → result.report ≡ None }
 {
     let ending = ending_of(alloc, words, streams);

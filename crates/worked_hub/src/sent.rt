@@ -1,12 +1,14 @@
 // An open sends one command where MANAGE CHANNEL gives no number, and a verification one VERIFY whatever is answered.
 
 use crate::nodding::Nodding;
-use apdu::Sw;
+use apdu::{Memory, Sw};
 use card_model::Trail;
 use channel_table::{OpenError, Table};
 use hub::{Hub, serves};
 use pin_session::{VerifyError, verify};
+use report::{Line, write_line};
 use script::read_script;
+use std::alloc::Global;
 use std::test::Fail;
 
 const AID: [u8; 7] = [0xA0, 0, 0, 0, 0x87, 0x10, 0x02];
@@ -16,6 +18,10 @@ const PIN: [u8; 8] = [0x31, 0x32, 0x33, 0x34, 0xFF, 0xFF, 0xFF, 0xFF];
 /// A card is put in; then a channel is opened and closed, and a session begun and ended.
 const SCRIPT: &str =
     r#"{"actors":[[{"card":0,"op":"in"},{"aid":"A0000000871002","op":"open","ref":0},{"op":"close","ref":0},{"key":"01","op":"verify","pin":"31323334FFFFFFFF"},{"key":"01","op":"end"}]],"cards":[{"files":[]}],"version":1}"#;
+
+/// What its operations answer, where MANAGE CHANNEL is the fourth event and VERIFY the fifth.
+const ANSWERS: &str =
+    "a 1 0 moved\na 1 1 status 9000 4\na 1 2 not-held 0\na 1 3 status 6C08 5\na 1 4 not-held 01\n";
 
 #[test]
 fn an_open_without_a_number_sends_one_command(rt: HostRuntime) -> Result<(), Fail> {
@@ -48,7 +54,20 @@ fn a_verification_sends_one_command(rt: HostRuntime) -> Result<(), Fail> {
     Ok(())
 }
 
-/// The insertion, two commands of start-up, MANAGE CHANNEL and VERIFY are all that happens.
+/// The texts of the answers in the first lines of a hub.
+fn answers(alloc: Global, hub: &Hub<Nodding>) -> Result<String, Memory> {
+    let mut texts = String::new(alloc);
+    for at in 0..40 {
+        if let Some(line) = hub.line(at)? {
+            if let Line::Answered { .. } = line {
+                texts.push_str(write_line(alloc, &line)?.as_str())?;
+            }
+        }
+    }
+    Ok(texts)
+}
+
+/// The insertion, two commands of start-up, MANAGE CHANNEL and VERIFY are all that happens, and the answers name the last two.
 #[test]
 fn a_hub_sends_no_further_command(rt: HostRuntime) -> Result<(), Fail> {
     let script = read_script(rt.alloc(), SCRIPT.as_bytes()).map_err(|_| "a script")?;
@@ -64,5 +83,7 @@ fn a_hub_sends_no_further_command(rt: HostRuntime) -> Result<(), Fail> {
     }
     assert!(rt; !hub.pending());
     assert_eq!(rt; hub.events(), 5);
+    let answers = answers(rt.alloc(), &hub)?;
+    assert_eq!(rt; answers.as_str(), ANSWERS);
     Ok(())
 }

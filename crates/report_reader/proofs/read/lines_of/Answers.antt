@@ -1,4 +1,4 @@
-use Rattle.std.proofs.Common.{◌≡◌, ◌∙◌, sym, arith, rules}
+use Rattle.std.proofs.Common.{◌∙◌, sym}
 use Rattle.report_reader.proofs.Steps.{next_line, one_less}
 use Rattle.report_reader.proofs.read.lines_of.Goals as goal
 

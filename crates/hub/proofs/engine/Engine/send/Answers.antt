@@ -23,14 +23,14 @@ returns-in_ok-exchange-in-Ok-clause-line g c =
     (has_line _ _ _ _ _ (line.Exchange c.args.actor c.args.command c.in-Ok.response) c.requires.turn.tied
     (exchange_follows c.args.self.now.script c.args.self.now.tracker c.args.actor c.requires.turn.turn c.args.command c.in-Ok.response c.requires.due)
     c.push_within.ensures.lines c.push_within.ensures.spare c.in_ok-exchange-in-Ok.ensures
-    (exchange_played c.args.self.now.script c.args.self.now.tracker c.args.actor c.args.command c.in-Ok.response _ _ _ _ c.requires.turn.tied.lines.served (plan_now _ c.requires.turn.tied) c.requires.turn.counts.counters.calls c.in-Ok.ensures.tells c.in-Ok.ensures.tells_plan c.in-Ok.ensures.counts c.in-Ok.ensures.ok))
+    (exchange_played c.args.self.now.script c.args.self.now.tracker c.args.actor c.args.command c.in-Ok.response _ _ _ _ (g.met.S.ScriptedSlot.tells_both c.args.self.now.slot) (plan_now _ c.requires.turn.tied) c.requires.turn.counts.counters.calls c.in-Ok.ensures.tells c.in-Ok.ensures.tells_plan c.in-Ok.ensures.counts c.in-Ok.ensures.planned c.in-Ok.ensures.ok))
     refl
 
 pub returns-in-Err-clause-line : goal.returns-in-Err-clause-line
 returns-in-Err-clause-line g c =
-    one_more _ _ (line.Failed c.args.actor c.args.command c.acted_at.result)
-    (has_line _ _ _ _ _ (line.Failed c.args.actor c.args.command c.acted_at.result) c.requires.turn.tied
-    (failed_follows c.args.self.now.script c.args.self.now.tracker c.args.actor c.requires.turn.turn c.args.command c.acted_at.result c.requires.due)
+    one_more _ _ (line.Failed c.args.actor c.args.command c.next_acts.result)
+    (has_line _ _ _ _ _ (line.Failed c.args.actor c.args.command c.next_acts.result) c.requires.turn.tied
+    (failed_follows c.args.self.now.script c.args.self.now.tracker c.args.actor c.requires.turn.turn c.args.command c.next_acts.result c.requires.due)
     c.push_within-in-Err.ensures.lines c.push_within-in-Err.ensures.spare c.fail.ensures
-    (failed_played c.args.self.now.script c.args.self.now.tracker c.args.actor c.args.command c.acted_at.result c.in-Err.field-0 _ _ _ _ c.requires.turn.tied.lines.served (g.met.S.ScriptedSlot.tells_both c.args.self.now.slot) (plan_now _ c.requires.turn.tied) c.requires.turn.counts.counters.calls c.in-Err.ensures.tells c.in-Err.ensures.tells_plan c.in-Err.ensures.counts c.in-Err.ensures.planned (world_inside _ c.args.command c.requires.turn.tied c.requires.due)))
+    (failed_played c.args.self.now.script c.args.self.now.tracker c.args.actor c.args.command c.next_acts.result c.in-Err.field-0 _ _ _ _ (g.met.S.ScriptedSlot.tells_both c.args.self.now.slot) (plan_now _ c.requires.turn.tied) c.requires.turn.counts.counters.calls c.in-Err.ensures.tells c.in-Err.ensures.tells_plan c.in-Err.ensures.counts c.in-Err.ensures.planned (world_inside _ c.args.command c.requires.turn.tied c.requires.due) c.next_acts.ensures))
     refl
