@@ -458,17 +458,3 @@ sends_of s [] served h = record { fits = tt; chain = tt; owed = tt; bare = λ h.
 sends_of s (l ∷ earlier) served h =
     let p = and_parts (are_followed s earlier) (is_followed s (kept_of s earlier) l) h in
     line_sends s served (kept_of s earlier) (sends_of s earlier served p.0) l (job_count s earlier) p.1
-
--- no operation edits so far
-no_writer_of : (op : Option Operation) → ServedOp op → is_writer op ≡ true → ⊥
-no_writer_of (Some (operation.Set f at name number)) v h = never v
-no_writer_of (Some (operation.Clear f at)) v h = never v
-no_writer_of op v h = never h
-
-no_writer_in : (s : Script) (k : Kept) (o : Option ℕ) → serves s ≡ true → is_writer (operation_in_turn s k o) ≡ true → ⊥
-no_writer_in s k None v h = never h
-no_writer_in s k (Some a) v h = no_writer_of (operation_now s a k.jobs) (served_now s a k.jobs v) h
-
-pub raw_alone : (s : Script) (k : Kept) (c : CommandValue) → serves s ≡ true → IsUpdater s k c → has_value is_raw (turn_operation s k) ≡ true
-raw_alone s k c v (inl h) = h
-raw_alone s k c v (inr e) = absurd (no_writer_in s k k.turn.actor v e.writer)

@@ -38,7 +38,7 @@ use Rattle.performed.specs.Followed.{is_given_or_refused, is_followed, are_follo
 use Rattle.performed.specs.Told.{is_told, are_told}
 use Rattle.performed.specs.Placed.{is_turn_allowed, is_placed}
 use Rattle.performed.specs.Laws.{MarksMove}
-use Rattle.performed.proofs.CalmRest.{responses_right}
+use Rattle.performed.proofs.CalmAnswers.{responses_right}
 use Rattle.performed.proofs.TurnsSays.{Begins, BeginsNow, says_of, begins_now}
 use Rattle.performed.proofs.EpochLives.{published_lives}
 use Rattle.performed.proofs.LegalDue.{does_line}

@@ -26,7 +26,7 @@ use Rattle.rules.specs.History.{lives_in}
 use Rattle.rules.specs.Kept.{operation_at, begun_of, begun_operation, operation_now, job_of}
 use Rattle.rules.specs.Channels.{held_numbers}
 use Rattle.rules.specs.Standing.{standing_after, is_stale, first_stale}
-use Rattle.rules.specs.Work.{is_starting, family_of_operation, family_read}
+use Rattle.rules.specs.Work.{is_starting, is_edit_over, family_of_operation, family_read}
 use Rattle.rules.specs.After.{facts_of, refused_of, family_begun, jobs_beside, fresh_begun, decision_at, family_of_begun, family_at, turn_exchanged, turn_behind, kept_of}
 use Rattle.performed.specs.Served.{is_served, serves}
 
@@ -124,6 +124,8 @@ family_of_op b (operation.Verify key pin) served form = refl
 family_of_op b operation.Poll served form = refl
 family_of_op b (operation.End key) served form = refl
 family_of_op b operation.Look served form = refl
+family_of_op b (operation.Set f at name number) served form = if_some (is_edit_over b.editing) (Some f) (below_three f form)
+family_of_op b (operation.Clear f at) served form = if_some (is_edit_over b.editing) (Some f) (below_three f form)
 family_of_op b op served form = absurd (true≢false (sym served))
 
 module _ (k : Kept) where

@@ -80,11 +80,11 @@ waits h n op edited =
     else edited
 
 -- who edits the family, and whom the operation waits for
-abbrev editing_by : Script → Kept → Option (ℕ × Edit) → Option ℕ
+abbrev pub editing_by : Script → Kept → Option (ℕ × Edit) → Option ℕ
 editing_by s k None = None
 editing_by s k (Some e) = first_actor (edits_family s k e.0) 0 s.actors
 
-editing_of : (s : Script) (k : Kept) (o : Option (ℕ × Edit)) → editing_by s k o ≡ (elim o [ None ↦ None | Some e ↦ first_actor (edits_family s k e.0) 0 s.actors ])
+pub editing_of : (s : Script) (k : Kept) (o : Option (ℕ × Edit)) → editing_by s k o ≡ (elim o [ None ↦ None | Some e ↦ first_actor (edits_family s k e.0) 0 s.actors ])
 editing_of s k None = refl
 editing_of s k (Some e) = refl
 

@@ -1,11 +1,15 @@
 // Laws of turns, each the contract of a function that does nothing.
 ghost use Rattle.performed.specs.Laws.{StaysPlain, TurnsMove};
 
-/// An actor of a script that is served edits nothing, has no mailbox, has answered at most 1000 operations, and holds
-/// only channels from 1 to 19.
+use book_plans::plans_fit;
+
+/// An actor of a script that is served plans only updates that fit into commands, has no mailbox, has answered at most
+/// 1000 operations, and holds only channels from 1 to 19.
 pub fn actors_stay_plain()
     ensures { StaysPlain }
-{}
+{
+    plans_fit();
+}
 
 /// A whole turn that neither waits nor finds nothing left adds an event, answers an operation, or publishes what was
 /// stale.
