@@ -1,3 +1,4 @@
+pub mod Served
 pub mod Scripts
 pub mod Ties
 pub mod Played

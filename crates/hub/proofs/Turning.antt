@@ -16,20 +16,17 @@ use Rattle.rules.specs.declared.kept.Kept.{Kept}
 use Rattle.rules.specs.declared.kept.Turn.{Turn}
 use Rattle.rules.specs.Kept.{begun_of}
 use Rattle.rules.specs.After.{facts_of, is_mark, kept_after, kept_of, turn_exchanged}
-use Rattle.rules.specs.Due.{due}
-use Rattle.rules.specs.Performed.{ends_turn}
 use Rattle.families.specs.Plans.{plan_updates}
 use Rattle.adn.specs.declared.edit.RowUpdate.{RowUpdate}
 use Rattle.editor.specs.declared.editing.Attempt.{Attempt}
 use Rattle.planner.specs.Room.{attempt_fits, begun_fits as updates_fit, is_short, turn_fits, update_fits, handles_fit}
 use Rattle.tracker.specs.Room.{CountsOn, HasRoom, attempt_has_room, begun_has_room, job_has_room}
 use Rattle.hub.specs.Short.{are_short, is_row_number, is_short_attempt, is_short_begun, is_short_job}
-use Rattle.performed.specs.Laws.{AreCounted, ArePlainJobs, IsPlain, IsPlainJob, has_no_mark, is_channel}
+use Rattle.performed.specs.Laws.{AreCounted, ArePlainJobs, IsPlain, IsPlainJob, StaysPlain, has_no_mark, is_channel}
 use Rattle.performed.proofs.Counts.{counts}
-use Rattle.performed.proofs.Plain.{stays_plain}
 use Rattle.performed.proofs.TurnsKept.{goes_on}
 use Rattle.hub.specs.Parts.{Parts}
-use Rattle.hub.specs.Settled.{IsReady, IsSettled, IsTied, IsSince, IsTurning, IsUnderWay, most_of_text}
+use Rattle.hub.specs.Settled.{IsReady, IsTied, IsSince, IsTurning, IsUnderWay, most_of_text}
 
 -- ---- plain jobs
 
@@ -56,14 +53,14 @@ begun_room : (n : ℕ) (o : Option Begun) → n + 1 < 2 ^ 64 → is_short_begun 
 begun_room n None few h = refl
 begun_room n (Some b) few h = attempt_room n b.editing.attempt few (and_parts (is_short_attempt n b.editing.attempt) (list_all is_row_number b.editing.marked) h).0
 
-job_room : (n : ℕ) (job : Job) → n + 1 < 2 ^ 64 → IsPlainJob job → is_short_job n job ≡ true → job_has_room job ≡ true
-job_room n job few h short = rw (answered_fits job.answered h.answered, h.mailbox, begun_room n job.begun few short) refl
+job_room : (n events : ℕ) (job : Job) → n + 1 < 2 ^ 64 → IsPlainJob events job → is_short_job n job ≡ true → job_has_room job ≡ true
+job_room n events job few h short = rw (answered_fits job.answered h.answered, h.mailbox, begun_room n job.begun few short) refl
 
-jobs_room : (n : ℕ) (jobs : List Job) → n + 1 < 2 ^ 64 → ArePlainJobs jobs → are_short n jobs ≡ true → list_all job_has_room jobs ≡ true
-jobs_room n [] few h short = refl
-jobs_room n (job ∷ jobs) few h short =
+jobs_room : (n events : ℕ) (jobs : List Job) → n + 1 < 2 ^ 64 → ArePlainJobs events jobs → are_short n jobs ≡ true → list_all job_has_room jobs ≡ true
+jobs_room n events [] few h short = refl
+jobs_room n events (job ∷ jobs) few h short =
     let parts = and_parts (is_short_job n job) (are_short n jobs) short in
-    rw (job_room n job few h.0 parts.0) (jobs_room n jobs few h.1 parts.1)
+    rw (job_room n events job few h.0 parts.0) (jobs_room n events jobs few h.1 parts.1)
 
 attempt_updates : (n : ℕ) (a : Option Attempt) → is_short_attempt n a ≡ true → attempt_fits a ≡ true
 attempt_updates n None h = refl
@@ -102,14 +99,14 @@ handles_by (x ∷ hs) h =
     let few = and_parts (nat_le 1 x.number) (nat_le x.number 19) q.0 in
     rw (few.1) (handles_by hs q.1)
 
-module _ (p : Parts) (t : IsTied p) where
+module _ (law : StaysPlain) (p : Parts) (t : IsTied p) where
   plain : IsPlain p.kept
-  plain = subst IsPlain (sym t.kept) (stays_plain p.script p.lines.lines t.lines.rules t.lines.served t.lines.followed)
+  plain = subst IsPlain (sym t.kept) (law p.script p.lines.lines t.lines.rules t.lines.served t.lines.followed)
 
   pub has_room : length p.lines.lines + 1 < 2 ^ 64 → HasRoom p.kept
   has_room h = record {
     counters = counts_on (length p.lines.lines) p.kept (subst (AreCounted (length p.lines.lines)) (sym t.kept) (counts p.script p.lines.lines)) h;
-    jobs = jobs_room (length p.lines.lines) p.kept.jobs h plain.jobs t.short;
+    jobs = jobs_room (length p.lines.lines) p.kept.history.events p.kept.jobs h plain.jobs t.short;
   }
 
   pub handles_small : handles_fit p.kept.handles ≡ true
@@ -165,24 +162,20 @@ turn_actor s (l ∷ added) earlier a h =
 
 -- ---- the next line may come
 
-module _ (a : ℕ) (earlier : List Line) (text : Option (List ℕ)) (p : Parts) (t : IsTurning a earlier text p) where
-  pub under_way : IsUnderWay a p
-  under_way =
-      let few = t.few in
-      let spare = t.spare in
-      let spare_bytes = t.spare_bytes in
-      record {
-        tied = t.tied;
-        turn = ap (λ (k : Kept). k.turn.actor) t.tied.kept ∙ ap (λ (x : List Line). (kept_of p.script x).turn.actor) t.turn.lines ∙ turn_actor p.script t.turn.added earlier a t.turn.own;
-        counts = has_room p t.tied (omega arith);
-        handles = handles_small p t.tied;
-        fits = turn_updates (length p.lines.lines) p.kept.turn.actor p.kept.jobs t.tied.short;
-        spare = omega arith;
-        spare_bytes = omega arith;
-      }
-
-  pub has_turned : (q : Parts) → p ≡ q → ends_turn (due p.script p.kept) ≡ true → IsSettled p
-  has_turned q e h = record { tied = t.tied; ends = h }
+pub under_way : StaysPlain → (a : ℕ) (earlier : List Line) (text : Option (List ℕ)) (p : Parts) → IsTurning a earlier text p → IsUnderWay a p
+under_way law a earlier text p t =
+    let few = t.few in
+    let spare = t.spare in
+    let spare_bytes = t.spare_bytes in
+    record {
+      tied = t.tied;
+      turn = ap (λ (k : Kept). k.turn.actor) t.tied.kept ∙ ap (λ (x : List Line). (kept_of p.script x).turn.actor) t.turn.lines ∙ turn_actor p.script t.turn.added earlier a t.turn.own;
+      counts = has_room law p t.tied (omega arith);
+      handles = handles_small law p t.tied;
+      fits = turn_updates (length p.lines.lines) p.kept.turn.actor p.kept.jobs t.tied.short;
+      spare = omega arith;
+      spare_bytes = omega arith;
+    }
 
 -- ---- one line more
 

@@ -1,4 +1,4 @@
-// What callers have of a hub.
+// What callers have of a hub. The laws of the crate performed that are called do nothing: the proofs rest on their contracts.
 ghost use Rattle.std.specs.Prelude.{◌≡◌, ◌&&◌, ◌≤◌, ◌∷◌, [], not, true, false, reverse, slice_get, IsSome, IfSome, IsErr, IfOk, OnOk, OnErr};
 ghost use Rattle.script_reader.specs.Rules.{keeps_rules};
 ghost use Rattle.script_reader.specs.World.{first_world};
@@ -16,7 +16,9 @@ use crate::turn::Turn;
 use apdu::Memory;
 use card_model::ScriptedSlot;
 use content_tracker::ContentTracker;
-use performed::finished_runs_are_legal;
+use performed::{
+    finished_runs_are_legal, turns_that_do_not_wait_do_something, turns_that_do_not_wait_move,
+};
 use report::{Line, Mode, Report, ReservedLines};
 use script::Script;
 use std::alloc::Global;
@@ -142,6 +144,8 @@ impl<S: ScriptedSlot + Drop> Hub<S> {
             Turn::Moved => {}
             idle => return Ok(idle),
         }
+        turns_that_do_not_wait_do_something();
+        turns_that_do_not_wait_move();
         let ready = self.engine.prepare(actor)?;
         self.whole = false;
         self.engine.take_turn(actor, ready)?;

@@ -1,4 +1,4 @@
-// A turn of an actor.
+// A turn of an actor. The law of the crate performed that is called does nothing: the proofs rest on its contract.
 ghost use Rattle.std.specs.Prelude.{◌≡◌, ◌≤◌, ◌<◌, ◌+◌, ◌^◌, not, true, false, nat_lt, if◌then◌else◌, None, is_some, length, IsOk, IfOk, OnOk, OnErr};
 ghost use Rattle.report.specs.declared.line.Line.TheVariants as line;
 ghost use Rattle.script_reader.specs.Rules.{keeps_rules};
@@ -18,6 +18,7 @@ use crate::engine::{BYTES_OF_PUBLICATION, BYTES_OF_TURN, Engine, FilePlans, LINE
 use crate::publish::{answered_of, family_ready};
 use apdu::{Memory, Text};
 use card_model::ScriptedSlot;
+use performed::actors_stay_plain;
 use planner::{
     LeftRows, begun_of, decision_at_begin, decision_at_turn, due_with, has_ended, is_finished,
     left_rows, waits_on,
@@ -80,6 +81,7 @@ impl<S: ScriptedSlot> Engine<S> {
         ensures { IfOk result (λ d. IsDecision self.now.script (line.Turn actor)
             self.now.tracker d) }
     {
+        actors_stay_plain();
         let kept = self.tracker.kept();
         decision_at_turn(self.alloc, &FilePlans, &self.script, kept, actor)
     }
@@ -93,6 +95,7 @@ impl<S: ScriptedSlot> Engine<S> {
         if begun_of(actor, &kept.jobs).is_some() {
             return Ok(None);
         }
+        actors_stay_plain();
         let op = answered_of(actor, kept);
         let decision = decision_at_begin(self.alloc, &FilePlans, &self.script, kept, actor, op)?;
         Ok(Some(decision))
@@ -166,7 +169,7 @@ impl<S: ScriptedSlot> Engine<S> {
     }
 
     /// The mark of a turn of the actor, as it is kept.
-    #[tactic(auto, using(crate::proofs::Scripts::few_actors, crate::proofs::Turning::has_room))]
+    #[tactic(auto, using(crate::proofs::Scripts::few_actors))]
     fn keep_mark(&mut self, actor: u8, decision: Decision)
         requires tied { IsTied (parts S.Slot.world S.Slot.plan self.old) }
         requires decision { IsDecision self.old.script (line.Turn actor) self.old.tracker
@@ -199,6 +202,7 @@ impl<S: ScriptedSlot> Engine<S> {
         ensures slot { self.new.slot ≡ self.old.slot }
         ensures script { self.new.script ≡ self.old.script }
     {
+        actors_stay_plain();
         self.keep_mark(actor, decision);
         self.lines.push_within(&Line::Turn { actor });
     }
@@ -287,6 +291,7 @@ impl<S: ScriptedSlot> Engine<S> {
         let mut text = text;
         let mut begin = begin;
         let mut left = left;
+        actors_stay_plain();
         self.mark(actor, mark);
         'lines: loop {
             let line = self.next(&mut left)?;

@@ -61,7 +61,7 @@ pub took_turn : (a : ℕ) (h h2 : HubValue) (b : ℕ) → IsUnderWay h.script (r
 took_turn a h h2 b u going scheduled awake t =
     let s = h.script in
     let unspent = is_unspent s (kept_of s h.lines) going in
-    let moves : Moves s (kept_of s h.lines) (kept_of s h2.lines) = subst (λ (x : Script). Moves s (kept_of s h.lines) (kept_of x h2.lines)) t.stays.script t.moves in
+    let moves : Moves s (kept_of s h.lines) (kept_of s h2.lines) = subst (λ (x : Script). Moves s (kept_of s h.lines) (kept_of x h2.lines)) t.stays.script (t.moves u.told) in
     record {
       under_way = record {
         script = t.stays.script;

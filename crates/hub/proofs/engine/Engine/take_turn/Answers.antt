@@ -20,20 +20,20 @@ lines-init g c = record {
 }
 
 pub next-requires-clause-fits : goal.next-requires-clause-fits
-next-requires-clause-fits g c = (under_way _ _ _ _ c.lines.invariant.turning).fits
+next-requires-clause-fits g c = (under_way c.actors_stay_plain.ensures _ _ _ _ c.lines.invariant.turning).fits
 
 pub next-requires-clause-left : goal.next-requires-clause-left
-next-requires-clause-left g c = left_in_turn c.args.actor c.lines.self.tracker _ (under_way _ _ _ _ c.lines.invariant.turning).turn c.lines.invariant.left.rows
+next-requires-clause-left g c = left_in_turn c.args.actor c.lines.self.tracker _ (under_way c.actors_stay_plain.ensures _ _ _ _ c.lines.invariant.turning).turn c.lines.invariant.left.rows
 
 pub returns-in_err-line-clause-err : goal.returns-in_err-line-clause-err
 returns-in_err-line-clause-err g c =
     always_err _ _ (broken_now _ _ _ _ _
     (c.lines.invariant.from ∙ ap (λ k. k.history.events) c.requires.settled.tied.kept) c.lines.invariant.stays c.lines.invariant.turning
-    (moved_on c.args.actor _ c.lines.self.tracker _ c.next.result _ (under_way _ _ _ _ c.lines.invariant.turning).turn c.lines.invariant.left c.in_err-line.was c.next.ensures.ready c.next.ensures.undecided))
+    (moved_on c.args.actor _ c.lines.self.tracker _ c.next.result _ (under_way c.actors_stay_plain.ensures _ _ _ _ c.lines.invariant.turning).turn c.lines.invariant.left c.in_err-line.was c.next.ensures.ready c.next.ensures.undecided))
 
 pub do_line-requires : goal.do_line-requires
 do_line-requires g c =
-    let way = under_way _ _ _ _ c.lines.invariant.turning in
+    let way = under_way c.actors_stay_plain.ensures _ _ _ _ c.lines.invariant.turning in
     record {
       turn = way;
       since = since _ _ _ _ _ c.lines.invariant.from c.requires.settled.tied c.lines.invariant.stays c.lines.invariant.turning;
@@ -60,7 +60,7 @@ lines-preserved g c = record {
   may = λ bare. filled_now _ _ c.lines.invariant.turning.tied c.in_ok-next.ensures.line bare;
   left =
       subst (λ (o : Option (List ℕ)). HasLeft c.args.actor c.kept.result.now.history.events o c.do_line.new.self.tracker) (sym c.unless_moved.ensures)
-      (next_left _ _ c.lines.invariant.turning.tied c.in_ok-next.ensures.line c.args.actor c.kept.result.now.history.events c.lines.left.ready c.take.result (under_way _ _ _ _ c.lines.invariant.turning).turn
+      (next_left _ _ c.lines.invariant.turning.tied c.in_ok-next.ensures.line c.args.actor c.kept.result.now.history.events c.lines.left.ready c.take.result (under_way c.actors_stay_plain.ensures _ _ _ _ c.lines.invariant.turning).turn
       (λ none. c.take.ensures.value ∙ ap (λ x. x.ready) (c.in_ok-line.ensures.kept (ap is_given c.in_ok-line.ensures.value ∙ none)))
       (since _ _ _ _ _ c.lines.invariant.from c.requires.settled.tied c.lines.invariant.stays c.lines.invariant.turning).started c.lines.invariant.left);
 }
