@@ -10,7 +10,7 @@ pub mod PlainJobs
 pub mod TurnsKept
 pub mod TurnsStale
 pub mod TurnsPhase
-pub mod TurnsLoad
+pub mod TurnsPublish
 pub mod TurnsMove
 pub mod OperationsKept
 pub mod WantedFamilies

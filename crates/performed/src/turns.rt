@@ -2,6 +2,7 @@
 ghost use Rattle.performed.specs.Laws.{StaysPlain, TurnsMove};
 
 use book_plans::plans_fit;
+use rules::{edit_is_planned_for_card, kept_agrees};
 
 /// An actor of a script that is served plans only updates that fit into commands, has no mailbox, has answered at most
 /// 1000 operations, and holds only channels from 1 to 19.
@@ -15,4 +16,7 @@ pub fn actors_stay_plain()
 /// stale.
 pub fn turns_that_do_not_wait_move()
     ensures { TurnsMove }
-{}
+{
+    kept_agrees();
+    edit_is_planned_for_card();
+}
