@@ -1,183 +1,194 @@
--- A load whose family is published in its turn owes its answer.
-use Rattle.std.proofs.Common.{◌≡◌, ℕ, zero, suc, ◌+◌, ◌==◌, Bool, true, false, if◌then◌else◌, List, [], ◌∷◌, length, Option, Some, None, is_some, refl, sym, ap, ◌∙◌, subst, arith, true≢false}
-use Rattle.std.specs.Prelude.{option_map, slice_get, replicate, unwrap_or}
+-- A load whose family is published in its turn owes its answer, and so does an edit that has decided.
+use Rattle.std.proofs.Common.{◌≡◌, ℕ, zero, suc, ◌+◌, ◌==◌, ◌&&◌, Bool, true, false, if◌then◌else◌, List, [], ◌∷◌, length, Option, Some, None, is_some, refl, sym, ap, ◌∙◌, subst, arith, true≢false}
+use Rattle.std.specs.Prelude.{is_none, option_map, slice_get, replicate, unwrap_or}
 use Rattle.script_reader.specs.declared.types.Script.{Script}
 use Rattle.script_reader.specs.declared.types.Operation.{Operation}
 use Rattle.script_reader.specs.declared.types.Operation.TheVariants as operation
-use Rattle.report.specs.declared.answer.Answer.{Answer}
 use Rattle.report.specs.declared.answer.Answer.TheVariants as answer
 use Rattle.report.specs.declared.line.Line.{Line}
 use Rattle.report.specs.declared.line.Line.TheVariants as line
+use Rattle.adn.specs.declared.edit.Edit.{Edit}
+use Rattle.adn.specs.declared.edit.Edit.TheVariants as edit
+use Rattle.editor.specs.declared.editing.Decided.{Decided}
+use Rattle.editor.specs.declared.editing.Editing.{Editing}
+use Rattle.editor.specs.Editing.{left_rows, owed_update}
 use Rattle.rules.specs.declared.kept.Begun.{Begun}
 use Rattle.rules.specs.declared.kept.Job.{Job}
 use Rattle.rules.specs.declared.kept.Kept.{Kept}
+use Rattle.rules.specs.declared.kept.Outcome.{Outcome}
+use Rattle.rules.specs.declared.kept.Turn.{Turn}
 use Rattle.rules.specs.History.{lives_in}
-use Rattle.rules.specs.Kept.{actor_count, first_job, job_of, begun_of, begun_operation, operation_at, operation_now}
-use Rattle.rules.specs.Work.{family_of_operation}
-use Rattle.rules.specs.Due.{with_card, with_ended, is_lost, answer_of_begun, answer_of_actor, due_answer}
-use Rattle.rules.specs.After.{begun_beside, begun_with, fresh_begun, job_beside, own_job, family_of_begun, decision_at, facts_of, kept_after, kept_of}
+use Rattle.rules.specs.Kept.{actor_count, first_job, begun_of, begun_operation, operation_at, operation_now}
+use Rattle.rules.specs.Editing.{family_edit}
+use Rattle.rules.specs.Work.{is_edit_over, family_of_operation}
+use Rattle.rules.specs.Due.{done_in_turn, decided_answer, edit_answer, answer_of_begun, answer_of_actor, due_answer}
+use Rattle.rules.specs.After.{begun_with, edit_of, fresh_begun, job_beside, own_job, family_of_begun, decision_at, facts_of, kept_after, kept_of}
 use Rattle.performed.specs.Served.{serves}
-use Rattle.performed.proofs.TurnsJobs.{is_own, behind_job, job_behind}
-use Rattle.performed.proofs.TurnsPhase.{some_number}
+use Rattle.performed.proofs.CalmSends.{never}
+use Rattle.performed.proofs.EditsBegun.{near, begun_marks, begun_stays}
+use Rattle.performed.proofs.EditsLines.{edit_answers}
+use Rattle.performed.proofs.EditsMarks.{card_some}
+use Rattle.performed.proofs.EpochDecided.{with_decided}
+use Rattle.performed.proofs.TurnsJobs.{behind_job, job_behind}
 use Rattle.performed.proofs.Plain.{ServesAt, served_at}
 
--- ---- the operation that an actor has begun
+-- ---- whose family a turn publishes: a load's, or that of an edit that has decided
 
-abbrev pub index_of : Begun → ℕ
-index_of b = b.index
+pub data Owes (op : Option Operation) (editing : Editing) : Type 0 where
+  loads : (f : ℕ) → op ≡ Some (operation.Load f) → Owes op editing
+  edits : (f : ℕ) (e : Edit) → edit_of op ≡ Some (f, e) → is_some editing.decided ≡ true → Owes op editing
 
-abbrev pub begun_index : Job → Option ℕ
-begun_index job = option_map index_of job.begun
+owes_still : (op : Option Operation) (x y : Editing) → y.decided ≡ x.decided → Owes op x → Owes op y
+owes_still op x y same (loads f is) = loads f is
+owes_still op x y same (edits f e is decided) = edits f e is (ap is_some same ∙ decided)
 
--- a load has begun
-pub record Loads (s : Script) (k : Kept) (actor : ℕ) : Type 0 where
-  pub index : ℕ
-  pub here : begun_index (job_of actor k.jobs) ≡ Some index
-  pub family : ℕ
-  pub operation : operation_at s actor index ≡ Some (operation.Load family)
-
--- a family that is published is a load's
-pub record LoadsIt (op : Option Operation) : Type 0 where
-  pub family : ℕ
-  pub is : op ≡ Some (operation.Load family)
+op_there : (op : Option Operation) (editing : Editing) → Owes op editing → is_some op ≡ true
+op_there op editing (loads f is) = ap is_some is
+op_there op editing (edits f e is decided) = by_op op is
+  where
+    by_op : (o : Option Operation) → edit_of o ≡ Some (f, e) → is_some o ≡ true
+    by_op None h = absurd (cc)
+    by_op (Some x) h = refl
 
 none_published : (lives : Bool) (f : ℕ) → (if lives then None else None) ≡ Some f → ⊥
 none_published true f e = absurd (cc)
 none_published false f e = absurd (cc)
 
-load_of : (b : Begun) (lives : Bool) (op : Option Operation) (f : ℕ) → ServesAt op → elim op as (λ o. Option ℕ) [ None ↦ None | Some o ↦ if lives then family_of_operation b o else None ] ≡ Some f → LoadsIt op
-load_of b lives None f h e = absurd (cc)
-load_of b lives (Some (operation.Load g)) f h e = record { family = g; is = refl }
-load_of b lives (Some (operation.Insert card)) f h e = absurd (none_published lives f e)
-load_of b lives (Some operation.Out) f h e = absurd (none_published lives f e)
-load_of b lives (Some (operation.Arm change)) f h e = absurd (none_published lives f e)
-load_of b lives (Some (operation.OpenChannel handle aid)) f h e = absurd (none_published lives f e)
-load_of b lives (Some (operation.Raw handle apdu)) f h e = absurd (none_published lives f e)
-load_of b lives (Some (operation.Close handle)) f h e = absurd (none_published lives f e)
-load_of b lives (Some (operation.Verify key pin)) f h e = absurd (none_published lives f e)
-load_of b lives (Some operation.Poll) f h e = absurd (none_published lives f e)
-load_of b lives (Some (operation.End key)) f h e = absurd (none_published lives f e)
-load_of b lives (Some operation.Look) f h e = absurd (none_published lives f e)
-load_of b lives (Some op) f h e = absurd (true≢false (sym h))
+edit_owes : (b : Begun) (lives : Bool) (op : Operation) (g f : ℕ) (e : Edit) → family_edit op ≡ Some (g, e) → (if lives then (if is_edit_over b.editing then Some g else None) else None) ≡ Some f → Owes (Some op) b.editing
+edit_owes b false op g f e is h = absurd (cc)
+edit_owes b true op g f e is h = by_decided (is_some b.editing.decided) refl h
+  where
+    by_decided : (d : Bool) → is_some b.editing.decided ≡ d → (if d && is_none (owed_update true b.editing) then Some g else None) ≡ Some f → Owes (Some op) b.editing
+    by_decided true decided q = edits g e is decided
+    by_decided false decided q = absurd (cc)
 
-by_operation : (k : Kept) (b : Begun) (op : Option Operation) (f : ℕ) → ServesAt op → family_of_begun k (Some b) op ≡ Some f → LoadsIt op
+owes_of : (b : Begun) (lives : Bool) (op : Option Operation) (f : ℕ) → ServesAt op → elim op as (λ o. Option ℕ) [ None ↦ None | Some o ↦ if lives then family_of_operation b o else None ] ≡ Some f → Owes op b.editing
+owes_of b lives None f h e = absurd (cc)
+owes_of b lives (Some (operation.Load g)) f h e = loads g refl
+owes_of b lives (Some (operation.Set g at name number)) f h e = edit_owes b lives (operation.Set g at name number) g f (edit.Set at (record { name = name; number = number })) refl e
+owes_of b lives (Some (operation.Clear g at)) f h e = edit_owes b lives (operation.Clear g at) g f (edit.Clear at) refl e
+owes_of b lives (Some (operation.Insert card)) f h e = absurd (none_published lives f e)
+owes_of b lives (Some operation.Out) f h e = absurd (none_published lives f e)
+owes_of b lives (Some (operation.Arm change)) f h e = absurd (none_published lives f e)
+owes_of b lives (Some (operation.OpenChannel handle aid)) f h e = absurd (none_published lives f e)
+owes_of b lives (Some (operation.Raw handle apdu)) f h e = absurd (none_published lives f e)
+owes_of b lives (Some (operation.Close handle)) f h e = absurd (none_published lives f e)
+owes_of b lives (Some (operation.Verify key pin)) f h e = absurd (none_published lives f e)
+owes_of b lives (Some operation.Poll) f h e = absurd (none_published lives f e)
+owes_of b lives (Some (operation.End key)) f h e = absurd (none_published lives f e)
+owes_of b lives (Some operation.Look) f h e = absurd (none_published lives f e)
+owes_of b lives (Some op) f h e = absurd (true≢false (sym h))
+
+by_operation : (k : Kept) (b : Begun) (op : Option Operation) (f : ℕ) → ServesAt op → family_of_begun k (Some b) op ≡ Some f → Owes op b.editing
 by_operation k b None f h e = absurd (cc)
-by_operation k b (Some op) f h e = load_of b (lives_in k.history b.epoch) (Some op) f h e
+by_operation k b (Some op) f h e = owes_of b (lives_in k.history b.epoch) (Some op) f h e
+
+-- the operation that the actor has begun is one
+pub record IsOwed (s : Script) (k : Kept) (actor : ℕ) : Type 0 where
+  pub begun : Begun
+  pub here : begun_of actor k.jobs ≡ Some begun
+  pub owes : Owes (operation_at s actor begun.index) begun.editing
 
 -- where it has begun before
-begun_load : (s : Script) (k : Kept) (actor f : ℕ) → serves s ≡ true → family_of_begun k (begun_of actor k.jobs) (operation_now s actor k.jobs) ≡ Some f → Loads s k actor
-begun_load s k actor f serving e = by_begun (begun_of actor k.jobs) refl e
+begun_owed : (s : Script) (k : Kept) (actor f : ℕ) → serves s ≡ true → family_of_begun k (begun_of actor k.jobs) (operation_now s actor k.jobs) ≡ Some f → IsOwed s k actor
+begun_owed s k actor f serving e = by_begun (begun_of actor k.jobs) refl e
   where
-    by_load : (b : Begun) → begun_of actor k.jobs ≡ Some b → LoadsIt (operation_at s actor b.index) → Loads s k actor
-    by_load b at l = record { index = b.index; here = ap (option_map index_of) at; family = l.family; operation = l.is }
-
-    by_begun : (o : Option Begun) → begun_of actor k.jobs ≡ o → family_of_begun k o (begun_operation s actor o) ≡ Some f → Loads s k actor
+    by_begun : (o : Option Begun) → begun_of actor k.jobs ≡ o → family_of_begun k o (begun_operation s actor o) ≡ Some f → IsOwed s k actor
     by_begun None at q = absurd (cc)
-    by_begun (Some b) at q = by_load b at (by_operation k b (operation_at s actor b.index) f (served_at s actor b.index serving) q)
+    by_begun (Some b) at q = record { begun = b; here = at; owes = by_operation k b (operation_at s actor b.index) f (served_at s actor b.index serving) q }
 
--- ---- behind a mark
+-- ---- behind its actor's mark
 
-near_index : (l : Line) (epoch : ℕ) (k : Kept) (s : Script) (x : Job) → begun_index (job_beside l epoch (facts_of s l k) k.selected x) ≡ begun_index x
-near_index l epoch k s x = by_begun x.begun
-  where
-    by_begun : (o : Option Begun) → option_map index_of (option_map (begun_beside l epoch (facts_of s l k)) o) ≡ option_map index_of o
-    by_begun None = refl
-    by_begun (Some b) = refl
-
-module _ (s : Script) (k : Kept) (actor : ℕ) where
-  abbrev near : Line → Job → Job
-  near l x = job_beside l k.history.epoch (facts_of s l k) k.selected x
-
-  own_index : (a : ℕ) (x : Job) → begun_index (own_job s (line.Turn a) k (facts_of s (line.Turn a) k) (decision_at s (line.Turn a) k).attempt x) ≡ begun_index x
-  own_index zero x = refl
-  own_index (suc a) x = by_begun x.begun
-    where
-      by_begun : (o : Option Begun) → option_map index_of (option_map (begun_with (decision_at s (line.Turn (suc a)) k).attempt) o) ≡ option_map index_of o
-      by_begun None = refl
-      by_begun (Some b) = refl
-
-  either_index : (b : Bool) (x y z : Job) → begun_index y ≡ begun_index x → begun_index z ≡ begun_index x → begun_index (if b then y else z) ≡ begun_index x
-  either_index true x y z h g = h
-  either_index false x y z h g = g
-
-  mark_index : (a : ℕ) (x : Job) → begun_index (behind_job s (line.Turn a) k actor x) ≡ begun_index x
-  mark_index a x =
-      let l : Line = line.Turn a in
-      let h = near_index l k.history.epoch k s x in
-      either_index (is_own actor l) x (own_job s l k (facts_of s l k) (decision_at s l k).attempt (near l x)) (near l x) (own_index a (near l x) ∙ h) h
-
-  place_index : (a : ℕ) (o : Option Job) → begun_index (unwrap_or (option_map (behind_job s (line.Turn a) k actor) o) first_job) ≡ begun_index (unwrap_or o first_job)
-  place_index a None = refl
-  place_index a (Some x) = mark_index a x
-
-  marked_index : (a : ℕ) → begun_index (job_of actor (kept_after s (line.Turn a) k).jobs) ≡ begun_index (job_of actor k.jobs)
-  marked_index a = ap (λ (o : Option Job). begun_index (unwrap_or o first_job)) (job_behind s (line.Turn a) k actor) ∙ place_index a (slice_get k.jobs actor)
-
-  pub marked_load : (a f : ℕ) → serves s ≡ true → family_of_begun k (begun_of actor k.jobs) (operation_now s actor k.jobs) ≡ Some f → Loads s (kept_after s (line.Turn a) k) actor
-  marked_load a f serving e =
-      let l : Loads s k actor = begun_load s k actor f serving e in
-      record { index = l.index; here = marked_index a ∙ l.here; family = l.family; operation = l.operation }
+pub marked_owed : (s : Script) (k : Kept) (a f : ℕ) → serves s ≡ true → family_of_begun k (begun_of (suc a) k.jobs) (operation_now s (suc a) k.jobs) ≡ Some f → IsOwed s (kept_after s (line.Turn (suc a)) k) (suc a)
+marked_owed s k a f serving e =
+    let l : Line = line.Turn (suc a) in
+    let x : IsOwed s k (suc a) = begun_owed s k (suc a) f serving e in
+    let now : Begun = begun_with (decision_at s l k).attempt (near s l k x.begun) in
+    record {
+      begun = now;
+      here = begun_marks s k a x.begun x.here;
+      owes = owes_still (operation_at s (suc a) x.begun.index) x.begun.editing now.editing (with_decided (decision_at s l k).attempt (near s l k x.begun).editing) x.owes;
+    }
 
 -- ---- behind a begin; the actor has a job
 
 module _ (s : Script) (k : Kept) (a i : ℕ) where
-  begun_place : (o : Option Job) → is_some o ≡ true → begun_index (unwrap_or (option_map (behind_job s (line.Begin a i) k a) o) first_job) ≡ Some i
+  abbrev begins : Line
+  begins = line.Begin a i
+
+  abbrev new_begun : Begun
+  new_begun = begun_with (decision_at s begins k).attempt (fresh_begun i k.history)
+
+  begun_place : (o : Option Job) → is_some o ≡ true → (unwrap_or (option_map (behind_job s begins k a) o) first_job).begun ≡ Some new_begun
   begun_place None h = absurd (true≢false (sym h))
   begun_place (Some x) h = by_own (a == a) (nat_self a)
     where
       nat_self : (n : ℕ) → (n == n) ≡ true
       nat_self n = grind arith
 
-      by_own : (b : Bool) → b ≡ true → begun_index (if b then own_job s (line.Begin a i) k (facts_of s (line.Begin a i) k) (decision_at s (line.Begin a i) k).attempt (near s k a (line.Begin a i) x) else near s k a (line.Begin a i) x) ≡ Some i
+      by_own : (b : Bool) → b ≡ true → (if b then own_job s begins k (facts_of s begins k) (decision_at s begins k).attempt (job_beside begins k.history.epoch (facts_of s begins k) k.selected x) else job_beside begins k.history.epoch (facts_of s begins k) k.selected x).begun ≡ Some new_begun
       by_own true e = refl
       by_own false e = absurd (true≢false (sym e))
 
-  new_load : (f : ℕ) → is_some (slice_get k.jobs a) ≡ true → LoadsIt (operation_at s a i) → Loads s (kept_after s (line.Begin a i) k) a
-  new_load f there l = record {
-    index = i;
-    here = ap (λ (o : Option Job). begun_index (unwrap_or o first_job)) (job_behind s (line.Begin a i) k a) ∙ begun_place (slice_get k.jobs a) there;
-    family = l.family;
-    operation = l.is;
-  }
-
-  pub begin_load : (f : ℕ) → serves s ≡ true → (is_some (operation_at s a i) ≡ true → is_some (slice_get k.jobs a) ≡ true) → family_of_begun k (Some (fresh_begun i k.history)) (operation_at s a i) ≡ Some f → Loads s (kept_after s (line.Begin a i) k) a
-  begin_load f serving present e =
-      let l : LoadsIt (operation_at s a i) = by_operation k (fresh_begun i k.history) (operation_at s a i) f (served_at s a i serving) e in
-      new_load f (present (ap is_some l.is)) l
+  pub begin_owed : (f : ℕ) → serves s ≡ true → (is_some (operation_at s a i) ≡ true → is_some (slice_get k.jobs a) ≡ true) → family_of_begun k (Some (fresh_begun i k.history)) (operation_at s a i) ≡ Some f → IsOwed s (kept_after s (line.Begin a i) k) a
+  begin_owed f serving present e =
+      let first : Begun = fresh_begun i k.history in
+      let owes : Owes (operation_at s a i) first.editing = by_operation k first (operation_at s a i) f (served_at s a i serving) e in
+      record {
+        begun = new_begun;
+        here = ap (λ (o : Option Job). (unwrap_or o first_job).begun) (job_behind s begins k a) ∙ begun_place (slice_get k.jobs a) (present (op_there (operation_at s a i) first.editing owes));
+        owes = owes_still (operation_at s a i) first.editing new_begun.editing (with_decided (decision_at s begins k).attempt first.editing) owes;
+      }
 
 -- ---- the answer behind the publication
 
-ended_answers : (epoch : ℕ) (ended : Option ℕ) (lost : Bool) (given : Answer) → is_some (with_ended epoch ended lost (Some given)) ≡ true
-ended_answers epoch None lost given = refl
-ended_answers epoch (Some n) lost given = refl
+published_done : (b : Begun) (d : Decided) (t : Turn) → is_some t.family ≡ true → is_some t.published ≡ true → is_some (decided_answer b d t) ≡ true
+published_done b d t family published = by_told b.told
+  where
+    by_published : (o : Option ℕ) (came : Option Outcome) → is_some o ≡ true → is_some (done_in_turn o came) ≡ true
+    by_published None came h = never h
+    by_published (Some n) came h = refl
 
-answers_load : (epoch : Option ℕ) (b : Begun) (given : Answer) → is_some (with_card epoch b (Some given)) ≡ true
-answers_load None b given = refl
-answers_load (Some epoch) b given = ended_answers epoch b.ended (is_lost b.ended b.editing.lost) given
+    done_some : (o : Option (Option ℕ)) → is_some o ≡ true → is_some (option_map (λ (n : Option ℕ). answer.Done d.event n (left_rows b.editing d)) o) ≡ true
+    done_some None h = never h
+    done_some (Some n) h = refl
 
-module _ (s : Script) (k : Kept) (actor : ℕ) (loads : Loads s k actor) (number f e n : ℕ) (text : List ℕ) where
+    by_told : (o : Option ℕ) → is_some (decided_answer (record b { told = o }) d t) ≡ true
+    by_told (Some n) = refl
+    by_told None =
+        done_some (if is_some t.family then done_in_turn t.published t.outcome else None)
+        (ap (λ (x : Bool). is_some (if x then done_in_turn t.published t.outcome else None)) family ∙ by_published t.published t.outcome published)
+
+module _ (s : Script) (k : Kept) (actor : ℕ) (x : IsOwed s k actor) (number f e n : ℕ) (text : List ℕ) where
   abbrev told : Line
   told = line.Published number f e n text
 
   abbrev after : Kept
   after = kept_after s told k
 
-  told_place : (o : Option Job) → begun_index (unwrap_or (option_map (behind_job s told k actor) o) first_job) ≡ begun_index (unwrap_or o first_job)
-  told_place None = refl
-  told_place (Some x) = near_index told k.history.epoch k s x
+  abbrev now : Begun
+  now = near s told k x.begun
 
-  told_index : begun_index (job_of actor after.jobs) ≡ Some loads.index
-  told_index = ap (λ (o : Option Job). begun_index (unwrap_or o first_job)) (job_behind s told k actor) ∙ told_place (slice_get k.jobs actor) ∙ loads.here
+  now_here : begun_of actor after.jobs ≡ Some now
+  now_here = begun_stays s told k actor x.begun refl x.here
 
-  by_operation_now : (b : Begun) (op : Option Operation) → op ≡ Some (operation.Load loads.family) → is_some (answer_of_begun after actor (Some b) op) ≡ true
-  by_operation_now b op h = subst (λ (o : Option Operation). is_some (answer_of_begun after actor (Some b) o) ≡ true) (sym h) (answers_load b.epoch b (answer.Loaded number))
+  edit_answered : (o : Option Decided) → is_some o ≡ true → is_some k.turn.family ≡ true → is_some (edit_answer now after.turn o) ≡ true
+  edit_answered None h family = never h
+  edit_answered (Some d) h family = published_done now d after.turn family refl
 
-  by_begun_now : (o : Option Begun) → option_map index_of o ≡ Some loads.index → is_some (answer_of_begun after actor o (begun_operation s actor o)) ≡ true
-  by_begun_now None h = absurd (cc)
-  by_begun_now (Some b) h = by_operation_now b (operation_at s actor b.index) (ap (operation_at s actor) (some_number b.index loads.index h) ∙ loads.operation)
-
-  pub load_answered : k.turn.actor ≡ Some actor → is_some (due_answer s after) ≡ true
-  load_answered at = subst (λ (o : Option ℕ). is_some (answer_of_actor s after o) ≡ true) (sym at) (by_begun_now (begun_of actor after.jobs) told_index)
+  pub owed_answered : k.turn.actor ≡ Some actor → is_some k.turn.family ≡ true → is_some (due_answer s after) ≡ true
+  owed_answered at family = by_owed x.owes
+    where
+      by_owed : Owes (operation_at s actor x.begun.index) x.begun.editing → is_some (due_answer s after) ≡ true
+      by_owed (loads g is) =
+          ap is_some
+          (ap (answer_of_actor s after) at
+          ∙ ap (λ (o : Option Begun). answer_of_begun after actor o (begun_operation s actor o)) now_here
+          ∙ ap (λ (o : Option Operation). answer_of_begun after actor (Some now) o) is)
+          ∙ card_some now.epoch now (Some (answer.Loaded number)) refl
+      by_owed (edits g d is decided) =
+          ap is_some (edit_answers s after actor now g d at now_here is)
+          ∙ edit_answered x.begun.editing.decided decided family
 
 -- ---- an actor that has operations has a job
 

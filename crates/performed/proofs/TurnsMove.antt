@@ -3,24 +3,27 @@ use Rattle.std.proofs.Common.{◌≡◌, ℕ, zero, suc, ◌++◌, not, Bool, tr
 use Rattle.std.specs.Prelude.{is_none}
 use Rattle.std.proofs.lemmas.Bool.{and_parts, eqb-true}
 use Rattle.script_reader.specs.declared.types.Script.{Script}
+use Rattle.script_reader.specs.Rules.{keeps_rules}
 use Rattle.report.specs.declared.line.Line.{Line}
 use Rattle.report.specs.declared.line.Line.TheVariants as line
 use Rattle.rules.specs.declared.kept.Kept.{Kept}
 use Rattle.rules.specs.History.{is_event}
 use Rattle.rules.specs.Work.{is_idle}
 use Rattle.rules.specs.Due.{due, due_answer}
+use Rattle.rules.specs.Laws.{KeptAgrees, PlansForCard}
 use Rattle.rules.specs.Rules.{is_turn_of}
 use Rattle.rules.specs.Performed.{ends_turn, begins_as, is_refusal_told}
 use Rattle.rules.specs.After.{is_mark, kept_after, kept_of}
 use Rattle.performed.specs.Served.{serves}
 use Rattle.performed.specs.Followed.{are_followed, is_followed}
+use Rattle.performed.specs.Told.{are_told}
 use Rattle.performed.specs.Progress.{Moves}
 use Rattle.performed.specs.Laws.{has_no_mark, TurnsMove}
 use Rattle.performed.proofs.TurnsSays.{turn_done, BeginsNow, begins_now}
 use Rattle.performed.proofs.TurnsKept.{GoesOn, goes_on, then_on, first_on, both_on, event_moves, answer_moves}
 use Rattle.performed.proofs.TurnsStale.{keeps_time}
 use Rattle.performed.proofs.TurnsPhase.{Publishes, publishes, end_stands, refusal_stands, framework_moves}
-use Rattle.performed.proofs.TurnsLoad.{Loads, marked_load, begin_load, load_answered, has_job}
+use Rattle.performed.proofs.TurnsLoad.{IsOwed, marked_owed, begin_owed, owed_answered, has_job}
 use Rattle.performed.proofs.ProgressMoves.{marks_move, begins_move}
 use Rattle.performed.proofs.Plain.{keeps}
 
@@ -31,7 +34,7 @@ record IsCalm (k : Kept) : Type 0 where
   ended : k.turn.ended ≡ None
   refused : k.turn.refused ≡ None
 
--- the family of its load is published, and the answer is due
+-- its family is published, and the answer is due
 record IsTold (s : Script) (k : Kept) : Type 0 where
   calm : IsCalm k
   number : ℕ
@@ -61,12 +64,12 @@ module _ (s : Script) (serving : serves s ≡ true) (earlier : List Line) (a : �
 
   -- ---- what a publication leaves
 
-  publication_told : (k : Kept) (actor number f e n : ℕ) (text : List ℕ) → IsCalm k → Loads s k actor → k.turn.actor ≡ Some actor → IsTold s (kept_after s (line.Published number f e n text) k)
-  publication_told k actor number f e n text calm loads whose = record {
+  publication_told : (k : Kept) (actor number f e n : ℕ) (text : List ℕ) → IsCalm k → IsOwed s k actor → k.turn.actor ≡ Some actor → k.turn.family ≡ Some f → IsTold s (kept_after s (line.Published number f e n text) k)
+  publication_told k actor number f e n text calm owed whose family = record {
     calm = record { ended = calm.ended; refused = calm.refused };
     number = number;
     published = refl;
-    answer = load_answered s k actor loads number f e n text whose;
+    answer = owed_answered s k actor owed number f e n text whose (ap is_some family);
   }
 
 -- behind the mark
@@ -79,8 +82,8 @@ mark_publishes s serving earlier zero number f e n text h =
 mark_publishes s serving earlier (suc b) number f e n text h =
     let k : Kept = behind s earlier (suc b) [] in
     let p : Publishes k f n = publishes s k number f e n text h in
-    let loads : Loads s k (suc b) = marked_load s (kept_of s earlier) (suc b) (suc b) f serving p.family in
-    told (publication_told s serving earlier (suc b) k (suc b) number f e n text (record { ended = refl; refused = refl }) loads refl)
+    let owed : IsOwed s k (suc b) = marked_owed s (kept_of s earlier) b f serving p.family in
+    told (publication_told s serving earlier (suc b) k (suc b) number f e n text (record { ended = refl; refused = refl }) owed refl p.family)
 
 module _ (s : Script) (serving : serves s ≡ true) (earlier : List Line) (a : ℕ) where
   -- a line behind those that moved nothing, given what comes of a begin and of a publication
@@ -126,8 +129,8 @@ module _ (s : Script) (serving : serves s ≡ true) (earlier : List Line) (a : �
     begin_publishes number f e n text h =
         let k : Kept = behind s earlier a front in
         let p : Publishes k f n = publishes s k number f e n text h in
-        let loads : Loads s k a = begin_load s (behind s earlier a []) a i f serving (has_job s (line.Turn a ∷ earlier) a i) p.family in
-        told (publication_told s serving earlier a k a number f e n text (record { ended = refl; refused = refl }) loads refl)
+        let owed : IsOwed s k a = begin_owed s (behind s earlier a []) a i f serving (has_job s (line.Turn a ∷ earlier) a i) p.family in
+        told (publication_told s serving earlier a k a number f e n text (record { ended = refl; refused = refl }) owed refl p.family)
 
     begins_once : (x j : ℕ) → is_followed s (behind s earlier a front) (line.Begin x j) ≡ true → ⊥
     begins_once x j h =
@@ -176,12 +179,12 @@ module _ (s : Script) (serving : serves s ≡ true) (earlier : List Line) (a : �
 
   -- ---- its end
 
-  module _ (idle : is_idle s (kept_of s earlier) a ≡ false) where
+  module _ (agrees : KeptAgrees) (plans : PlansForCard) (rules : keeps_rules s ≡ true) (shows : are_told s earlier ≡ true) (idle : is_idle s (kept_of s earlier) a ≡ false) where
     abbrev Ends : List Line → Type 0
     Ends added = are_followed s (added ++ line.Turn a ∷ earlier) ≡ true → ends_turn (due s (behind s earlier a added)) ≡ true → ⊥
 
     mark_goes_on : Ends []
-    mark_goes_on f ends = true≢false (sym ends ∙ marks_move s earlier a serving f idle)
+    mark_goes_on f ends = true≢false (sym ends ∙ marks_move agrees plans s earlier a rules serving f shows idle)
 
     begin_goes_on : (i : ℕ) → Ends (line.Begin a i ∷ [])
     begin_goes_on i f ends = true≢false (sym ends ∙ begins_move s (line.Turn a ∷ earlier) a i serving f)
@@ -195,5 +198,5 @@ module _ (s : Script) (serving : serves s ≡ true) (earlier : List Line) (a : �
     finish added (begun i e) f ends = absurd (subst (λ (xs : List Line). Ends xs) (sym e) (begin_goes_on i) f ends)
     finish added (told t) f ends = absurd (told_goes_on added t f ends)
 
-pub turns_move : TurnsMove
-turns_move s earlier added a serving followed unmarked idle ends = finish s serving earlier a idle added (phase s serving earlier a added followed unmarked) followed ends
+pub turns_move : KeptAgrees → PlansForCard → TurnsMove
+turns_move agrees plans s earlier added a rules serving followed shows unmarked idle ends = finish s serving earlier a agrees plans rules shows idle added (phase s serving earlier a added followed unmarked) followed ends
