@@ -76,6 +76,7 @@ pub mod ProgressSound
 pub mod ProgressHandles
 pub mod ProgressGoes
 pub mod ProgressEdits
+pub mod ProgressReady
 pub mod ProgressMoves
 pub mod JobPlaces
 pub mod CalmKinds

@@ -1,4 +1,4 @@
-// Laws of turns, each the contract of a function that does nothing.
+// Laws of turns, each the contract of a function that does nothing but to call the laws that it takes.
 ghost use Rattle.performed.specs.Laws.{StaysPlain, TurnsMove};
 
 use book_plans::plans_fit;
@@ -13,7 +13,7 @@ pub fn actors_stay_plain()
 }
 
 /// A whole turn that neither waits nor finds nothing left adds an event, answers an operation, or publishes what was
-/// stale.
+/// stale, where the lines before it show what the slot gave.
 pub fn turns_that_do_not_wait_move()
     ensures { TurnsMove }
 {
