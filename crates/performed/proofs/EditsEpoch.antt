@@ -1,15 +1,13 @@
 -- An edit that has decided began in an epoch.
-use Rattle.std.proofs.Common.{◌≡◌, ◌⊎◌, inl, inr, ℕ, ◌+◌, Bool, true, false, if◌then◌else◌, Option, Some, None, is_some, List, [], ◌∷◌, refl, sym, ap, ◌∙◌, subst}
+use Rattle.std.proofs.Common.{◌≡◌, ◌⊎◌, ℕ, ◌+◌, Bool, true, false, if◌then◌else◌, Option, Some, None, is_some, List, [], ◌∷◌, refl, sym, ap, ◌∙◌, subst}
 use Rattle.std.proofs.lemmas.Bool.{and_parts}
 use Rattle.apdu.specs.Values.{CommandValue, ResponseValue}
 use Rattle.apdu.specs.Apdu.{is_update_ins}
-use Rattle.card_model.specs.declared.world.World.{World}
 use Rattle.script_reader.specs.declared.types.Script.{Script}
 use Rattle.script_reader.specs.Rules.{keeps_rules}
 use Rattle.report.specs.declared.line.Line.{Line}
 use Rattle.report.specs.declared.line.Line.TheVariants as line
 use Rattle.adn.specs.declared.edit.Edit.{Edit}
-use Rattle.editor.specs.declared.editing.Decided.{Decided}
 use Rattle.editor.specs.declared.editing.Editing.{Editing}
 use Rattle.editor.specs.Editing.{moved_editing, no_editing, lost_update}
 use Rattle.epoch_cache.specs.declared.past.Past.{Past}
@@ -19,7 +17,7 @@ use Rattle.rules.specs.declared.kept.Begun.{Begun}
 use Rattle.rules.specs.declared.kept.Kept.{Kept}
 use Rattle.rules.specs.History.{lives_in}
 use Rattle.rules.specs.Kept.{actor_count, begun_of, operation_at, operation_now, begun_operation}
-use Rattle.rules.specs.After.{edit_of, editing_lost, editing_sent, begun_exchanged, decision_at, facts_of, kept_after, kept_of}
+use Rattle.rules.specs.After.{edit_of, editing_lost, editing_sent, begun_exchanged, decision_at, facts_of, kept_of}
 use Rattle.rules.specs.Laws.{KeptAgrees, PlansForCard}
 use Rattle.rules.specs.Rules.{has_right_response}
 use Rattle.rules.specs.State.{world_of}
