@@ -159,9 +159,9 @@ module _ (looks : KeptLooksBack) (s : Script) (earlier : List Line) (followed : 
       let refused_now = refused_of k.selected (jobs_beside l k.history.epoch (facts_of s l k) k.selected k.jobs) (facts_of s l k).answered in
       stays_awaited l h (λ m given e. absurd (cc)) t.decided.lives (paths_stay looks s earlier l (family_paths f) refl unmoved known t.current)
       (λ actor some.
-          let turn : k.turn.actor ≡ Some t.who = sym (exchanged_actor (operation_now s a k.jobs) (job_of a (kept_after s l k).jobs) (held_numbers k.history k.handles) (facts_of s l k) refused_now k.turn (facts_of s l k).answered) ∙ actor in
-          let family : is_some k.turn.family ≡ true = ap is_some (sym (exchanged_family (operation_now s a k.jobs) (job_of a (kept_after s l k).jobs) (held_numbers k.history k.handles) (facts_of s l k) refused_now k.turn (facts_of s l k).answered refl)) ∙ some in
-          absurd (true≢false (sym (sent_of s k a c r (and_parts (is_turn_of a k.turn) (is_sent (due s k) l) h).1) ∙ ap (has_value (same_command c)) (t.quiet turn family).silent)))
+      let turn : k.turn.actor ≡ Some t.who = sym (exchanged_actor (operation_now s a k.jobs) (job_of a (kept_after s l k).jobs) (held_numbers k.history k.handles) (facts_of s l k) refused_now k.turn (facts_of s l k).answered) ∙ actor in
+      let family : is_some k.turn.family ≡ true = ap is_some (sym (exchanged_family (operation_now s a k.jobs) (job_of a (kept_after s l k).jobs) (held_numbers k.history k.handles) (facts_of s l k) refused_now k.turn (facts_of s l k).answered refl)) ∙ some in
+      absurd (true≢false (sym (sent_of s k a c r (and_parts (is_turn_of a k.turn) (is_sent (due s k) l) h).1) ∙ ap (has_value (same_command c)) (t.quiet turn family).silent)))
 
   -- an armed change
   pub arm_awaited : (a i : ℕ) → is_followed s k (line.World a (Arm i)) ≡ true → IsAwaited s (kept_after s (line.World a (Arm i)) k) f

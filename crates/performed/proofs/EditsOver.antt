@@ -205,7 +205,7 @@ module _ (agrees : KeptAgrees) (s : Script) (rules : keeps_rules s ≡ true) (se
           by_how : How agrees s rules served earlier followed told t a c r h right → is_edit_over b.editing ≡ true
           by_how (still idle) =
               let editing : b.editing ≡ moved_editing (facts_of s (line.Exchange a c r) k).touch b0.editing =
-                  ap (λ (x : Begun). x.editing) become ∙ exchanged_same (edit_of (operation_now s a0 k.jobs)) k.selected k.chain (k.history.events + 1) c0 r0 (moved_editing (facts_of s (line.Exchange a c r) k).touch b0.editing) (ap (λ (d : CommandValue). is_update_ins d.ins) (sym same) ∙ idle) in
+              ap (λ (x : Begun). x.editing) become ∙ exchanged_same (edit_of (operation_now s a0 k.jobs)) k.selected k.chain (k.history.events + 1) c0 r0 (moved_editing (facts_of s (line.Exchange a c r) k).touch b0.editing) (ap (λ (d : CommandValue). is_update_ins d.ins) (sym same) ∙ idle) in
               ap is_edit_over editing ∙ over_moved (facts_of s (line.Exchange a c r) k).touch b0.editing was
           by_how (by_raw raw) = absurd (raw_edits (operation_now s a k.jobs) f e raw (ap edit_of (ap (λ (n : ℕ). operation_now s n k.jobs) is ∙ ap (begun_operation s i) there) ∙ edits))
           by_how (by_edit x) =

@@ -195,8 +195,8 @@ module _ (s : Script) (k : Kept) where
         let begun : begun_of (suc a) (marked (suc a)).jobs ≡ Some (marked_begun a b) = begun_marks s k a b eb in
         let of : operation_now s (suc a) k.jobs ≡ Some op = ap (begun_operation s (suc a)) eb ∙ eo in
         let decides : decision_at s (line.Turn (suc a)) k ≡ work_of_operation k (suc a) b op =
-            ap (λ (o : Option Begun). decision_of_begun k (suc a) o (operation_now s (suc a) k.jobs)) eb
-            ∙ ap (λ (o : Option Operation). decision_of_begun k (suc a) (Some b) o) of in
+        ap (λ (o : Option Begun). decision_of_begun k (suc a) o (operation_now s (suc a) k.jobs)) eb
+        ∙ ap (λ (o : Option Operation). decision_of_begun k (suc a) (Some b) o) of in
         record {
           turn = marked_fresh (suc a);
           begun = begun;
@@ -210,8 +210,8 @@ module _ (s : Script) (k : Kept) where
           held = held;
           told = refl;
           editing =
-            ap (with_attempt (decision_at s (line.Turn (suc a)) k).attempt) (editing_same (suc a) b)
-            ∙ ap (λ (d : Decision). with_attempt d.attempt b.editing) decides;
+              ap (with_attempt (decision_at s (line.Turn (suc a)) k).attempt) (editing_same (suc a) b)
+              ∙ ap (λ (d : Decision). with_attempt d.attempt b.editing) decides;
         }
 
     begun_goes : (a : ℕ) (b : Begun) (o : Option Operation) → begun_of (suc a) k.jobs ≡ Some b → operation_at s (suc a) b.index ≡ o → is_some o ≡ true → serves s ≡ true → lives_or_ended k.history b.epoch b.ended ≡ true → ends_turn (due s (marked (suc a))) ≡ false
