@@ -27,7 +27,7 @@ use Rattle.performed.specs.Told.{is_told, are_told}
 use Rattle.performed.proofs.CalmAnswers.{told_response}
 use Rattle.performed.proofs.CalmSends.{never}
 use Rattle.performed.proofs.EditsBegun.{near, Came, stays, marks, begins, exchanges, fails, came}
-use Rattle.performed.proofs.EditsKept.{How, still, by_raw, by_edit, how, raw_edits, own, own_actor}
+use Rattle.performed.proofs.EditsKept.{How, still, by_raw, by_edit, how, lives_some, raw_edits, own, own_actor}
 use Rattle.performed.proofs.EditsOver.{begun_same}
 use Rattle.performed.proofs.EditsState.{Edited}
 use Rattle.performed.proofs.EditsSteps.{exchanged_same}
@@ -37,10 +37,6 @@ use Rattle.performed.proofs.EpochDecided.{with_decided, sent_decided}
 
 abbrev DecidedSince : Script → Kept → Type 0
 DecidedSince s k = (i : ℕ) (b : Begun) (f : ℕ) (e : Edit) → begun_of i k.jobs ≡ Some b → edit_of (operation_at s i b.index) ≡ Some (f, e) → is_some b.editing.decided ≡ true → is_some b.epoch ≡ true
-
-lives_some : (h : Past) (o : Option ℕ) → lives_in h o ≡ true → is_some o ≡ true
-lives_some h None e = never e
-lives_some h (Some n) e = refl
 
 -- a lost answer decides nothing
 lost_decided : (o : Option (ℕ × Edit)) (selected : Option (List ℕ)) (event : ℕ) (c : CommandValue) (e : Editing) → (editing_lost o selected event c e).decided ≡ e.decided

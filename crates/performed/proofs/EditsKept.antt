@@ -67,7 +67,7 @@ use Rattle.performed.proofs.CalmLines.{exchanged_actor}
 use Rattle.performed.proofs.EditsSends.{no_update, names_path}
 
 -- some number
-lives_some : (h : Past) (o : Option ℕ) → lives_in h o ≡ true → is_some o ≡ true
+pub lives_some : (h : Past) (o : Option ℕ) → lives_in h o ≡ true → is_some o ≡ true
 lives_some h None q = never q
 lives_some h (Some n) q = refl
 
