@@ -49,8 +49,7 @@ use Rattle.performed.proofs.EditsWork.{edit_untried}
 use Rattle.performed.proofs.EpochBegun.{living_unended}
 use Rattle.performed.proofs.EpochDecided.{IsDecided, decided_behind, begin_free}
 use Rattle.performed.proofs.EpochFamily.{turn_edits}
-use Rattle.performed.proofs.TurnsPhase.{Publishes, publishes}
-use Rattle.performed.proofs.TurnsPhase.{some_number}
+use Rattle.performed.proofs.TurnsPhase.{Publishes, publishes, some_number}
 use Rattle.performed.proofs.TurnsSays.{begins_now, says_of}
 use Rattle.performed.proofs.WantedFamilies.{exchanged_family}
 

@@ -10,7 +10,6 @@ use Rattle.report.specs.declared.line.Line.TheVariants as line
 use Rattle.adn.specs.declared.edit.Edit.{Edit}
 use Rattle.editor.specs.declared.editing.Editing.{Editing}
 use Rattle.editor.specs.Editing.{moved_editing, no_editing, lost_update}
-use Rattle.epoch_cache.specs.declared.past.Past.{Past}
 use Rattle.families.specs.Families.{family_path}
 use Rattle.link.specs.Commands.{is_at}
 use Rattle.rules.specs.declared.kept.Begun.{Begun}
