@@ -21,7 +21,6 @@ use Rattle.editor.specs.Editing.{edit_paths, next_update, owed_of, owed_update, 
 use Rattle.loader.specs.Load.{selected_first}
 use Rattle.rules.specs.declared.kept.Begun.{Begun}
 use Rattle.rules.specs.declared.kept.Decision.{Decision}
-use Rattle.rules.specs.declared.kept.Job.{Job}
 use Rattle.rules.specs.declared.kept.Kept.{Kept}
 use Rattle.rules.specs.declared.kept.Turn.{Turn}
 use Rattle.rules.specs.declared.kept.Work.{Work}

@@ -1,12 +1,10 @@
 -- A turn that neither waits nor finds nothing left has something to do, also behind the line that begins its operation.
-use Rattle.std.proofs.Common.{◌≡◌, ℕ, zero, suc, ◌+◌, ◌&&◌, ◌||◌, not, Bool, true, false, if◌then◌else◌, List, [], ◌∷◌, length, Option, Some, None, is_some, is_none, refl, sym, ap, ◌∙◌, arith, true≢false, length-set}
-use Rattle.std.specs.Prelude.{option_map, slice_get, nat_le, nat_lt, unwrap_or}
+use Rattle.std.proofs.Common.{◌≡◌, ℕ, zero, suc, ◌+◌, ◌&&◌, ◌||◌, not, Bool, true, false, if◌then◌else◌, List, [], ◌∷◌, length, Option, Some, None, is_some, is_none, refl, sym, ap, ◌∙◌, true≢false}
+use Rattle.std.specs.Prelude.{option_map, nat_le}
 use Rattle.std.proofs.lemmas.Bool.{and_parts, or_parts}
-use Rattle.std.proofs.lemmas.List.{length-map, length-replicate}
 use Rattle.apdu.specs.Values.{CommandValue, ResponseValue}
 use Rattle.script_reader.specs.declared.types.Script.{Script}
 use Rattle.script_reader.specs.declared.types.Operation.{Operation}
-use Rattle.adn.specs.declared.edit.Edit.{Edit}
 use Rattle.report.specs.declared.line.Line.{Line}
 use Rattle.report.specs.declared.line.Line.TheVariants as line
 use Rattle.families.specs.Families.{family_paths}
@@ -27,9 +25,9 @@ use Rattle.rules.specs.declared.kept.Work.{Work}
 use Rattle.rules.specs.declared.kept.Work.TheVariants.{Rests as rests, Sends as sends, Resets as resets}
 use Rattle.rules.specs.declared.due.Due.TheVariants.{Begin as begin, WaitFor as wait_for, EndOfActor as end_of_actor, Rest as rest}
 use Rattle.rules.specs.Standing.{first_stale}
-use Rattle.rules.specs.Kept.{actor_count, first_job, operation_at, job_of, begun_of, begun_operation, operation_now, changed_at}
+use Rattle.rules.specs.Kept.{actor_count, operation_at, job_of, begun_of, begun_operation, operation_now}
 use Rattle.rules.specs.Work.{is_starting, has_work_alive, has_work, has_operations_left, first_actor, all_answered, is_finished, has_ended, waits_on, is_idle, reads_first, read_stale, first_item, framework_work, family_read, work_of_operation}
-use Rattle.rules.specs.After.{edit_of, facts_of, decision_at, decision_of_begun, family_of_begun, fresh_begun, begun_with, job_beside, jobs_beside, own_job, actor_of, jobs_of_actor, opened_behind, refused_of, turn_answered, turn_exchanged, kept_after, kept_of}
+use Rattle.rules.specs.After.{edit_of, facts_of, decision_at, decision_of_begun, family_of_begun, fresh_begun, begun_with, jobs_beside, opened_behind, refused_of, turn_answered, turn_exchanged, kept_after, kept_of}
 use Rattle.rules.specs.Channels.{held_numbers}
 use Rattle.rules.specs.Due.{begin_or_rest, due}
 use Rattle.rules.specs.Laws.{KeptAgrees, PlansForCard}
@@ -42,10 +40,10 @@ use Rattle.performed.proofs.EditsBegun.{near, begun_marks}
 use Rattle.performed.proofs.EditsState.{unmoved_attempt}
 use Rattle.performed.proofs.ProgressEdits.{edit_goes}
 use Rattle.performed.proofs.ProgressReady.{AreReady, are_ready, fresh_ready}
-use Rattle.performed.proofs.ProgressJobs.{changed_here}
+use Rattle.performed.proofs.JobPlaces.{begun_there, job_count}
 use Rattle.performed.proofs.ProgressMarks.{seen_of, SameWork, ended_same, waits_same, same_work, all_kept}
 use Rattle.performed.proofs.ProgressServed.{served_at}
-use Rattle.performed.proofs.ProgressBegins.{Starts, starts, nothing_below, some_below, operation_there}
+use Rattle.performed.proofs.ProgressBegins.{Starts, starts, operation_there}
 use Rattle.performed.proofs.ProgressSound.{lives_or_ended, IsSoundOption, IsSoundJob, fresh_lives, sound}
 use Rattle.performed.proofs.ProgressHandles.{are_sound_handles, sound_handles}
 use Rattle.performed.proofs.ProgressGoes.{IsFreshTurn, RunsAs, goes_by_actor, sends_goes, resets_goes, load_goes, operation_goes}
@@ -274,40 +272,6 @@ bare_mark s (line.EpochEnd n v p ∷ e) h = absurd (true≢false (sym h))
 bare_mark s (line.Refused f n ∷ e) h = absurd (true≢false (sym h))
 bare_mark s (line.Answered a i given ∷ e) h = absurd (true≢false (sym h))
 
--- each actor has a job
-changed_length : (n : ℕ) (f : Job → Job) (xs : List Job) (o : Option Job) → length (changed_at n f xs o) ≡ length xs
-changed_length n f xs None = refl
-changed_length n f xs (Some x) = length-set xs n (f x)
-
-own_length : (s : Script) (l : Line) (k : Kept) (facts : Facts) (attempt : Option Attempt) (o : Option ℕ) (xs : List Job) → length (jobs_of_actor s l k facts attempt o xs) ≡ length xs
-own_length s l k facts attempt None xs = refl
-own_length s l k facts attempt (Some a) xs = changed_length a (own_job s l k facts attempt) xs (slice_get xs a)
-
-job_count : (s : Script) (lines : List Line) → length (kept_of s lines).jobs ≡ actor_count s + 1
-job_count s [] = length-replicate (actor_count s + 1) first_job
-job_count s (l ∷ e) =
-    own_length s l (kept_of s e) (facts_of s l (kept_of s e)) (decision_at s l (kept_of s e)).attempt (actor_of l) (jobs_beside l (kept_of s e).history.epoch (facts_of s l (kept_of s e)) (kept_of s e).selected (kept_of s e).jobs)
-    ∙ length-map (kept_of s e).jobs (job_beside l (kept_of s e).history.epoch (facts_of s l (kept_of s e)) (kept_of s e).selected)
-    ∙ job_count s e
-
-first_below : (n : ℕ) → nat_lt 0 (suc n) ≡ true
-first_below n = grind arith
-
-next_below : (b n : ℕ) → nat_lt b n ≡ true → nat_lt (suc b) (suc n) ≡ true
-next_below b n h = grind arith
-
-actor_there : (xs : List (List Operation)) (b n : ℕ) → nat_lt n (length (unwrap_or (slice_get xs b) [])) ≡ true → nat_lt b (length xs) ≡ true
-actor_there [] b n h = absurd (nothing_below n h)
-actor_there (ops ∷ xs) zero n h = first_below (length xs)
-actor_there (ops ∷ xs) (suc b) n h = next_below b (length xs) (actor_there xs b n h)
-
-below_one_more : (b n : ℕ) → nat_lt b n ≡ true → nat_lt (suc b) (n + 1) ≡ true
-below_one_more b n h = grind arith
-
-has_place : (s : Script) (k : Kept) (a : ℕ) → has_operations_left s k a ≡ true → nat_lt a (actor_count s + 1) ≡ true
-has_place s k zero h = absurd (nothing_below (job_of zero k.jobs).answered h)
-has_place s k (suc a) h = below_one_more a (actor_count s) (actor_there s.actors a (job_of (suc a) k.jobs).answered h)
-
 module _ (s : Script) (k : Kept) (a i : ℕ) (t : Starts s k a i) (undone : IsUndone k) (held : are_sound_handles k.history k.handles ≡ true) where
   abbrev begun_kept : Kept
   begun_kept = kept_after s (line.Begin a i) k
@@ -317,13 +281,6 @@ module _ (s : Script) (k : Kept) (a i : ℕ) (t : Starts s k a i) (undone : IsUn
 
   abbrev now_begun : Begun
   now_begun = begun_with (decision_at s (line.Begin a i) k).attempt fresh_one
-
-  abbrev beside_begin : List Job
-  beside_begin = jobs_beside (line.Begin a i) k.history.epoch (facts_of s (line.Begin a i) k) k.selected k.jobs
-
-  job_place : (o : Option Job) → slice_get beside_begin a ≡ o → is_some o ≡ true → begun_of a begun_kept.jobs ≡ Some now_begun
-  job_place None e h = absurd (true≢false (sym h))
-  job_place (Some x) e h = ap (λ (job : Job). job.begun) (changed_here (own_job s (line.Begin a i) k (facts_of s (line.Begin a i) k) (decision_at s (line.Begin a i) k).attempt) beside_begin a x e)
 
   fresh_turn : IsFreshTurn begun_kept a
   fresh_turn = record { chain = refl; actor_is = t.turn; stage = undone.0; published = undone.1 }
@@ -347,9 +304,7 @@ module _ (s : Script) (k : Kept) (a i : ℕ) (t : Starts s k a i) (undone : IsUn
   begun_moves : (o : Option Operation) → operation_at s a i ≡ o → is_some o ≡ true → serves s ≡ true → length k.jobs ≡ actor_count s + 1 → ends_turn (due s begun_kept) ≡ false
   begun_moves None e there served count = absurd (true≢false (sym there))
   begun_moves (Some op) e there served count =
-      let long : length beside_begin ≡ actor_count s + 1 = length-map k.jobs (job_beside (line.Begin a i) k.history.epoch (facts_of s (line.Begin a i) k) k.selected) ∙ count in
-      let place : is_some (slice_get beside_begin a) ≡ true = some_below beside_begin a (ap (nat_lt a) long ∙ has_place s k a t.left) in
-      let r : RunsAs s begun_kept k a fresh_one now_begun op = fresh_runs op e (job_place (slice_get beside_begin a) refl place) in
+      let r : RunsAs s begun_kept k a fresh_one now_begun op = fresh_runs op e (begun_there s k a i t count) in
       operation_goes s begun_kept k a fresh_one now_begun op (served_at s a i op served e) r
       (λ f d edits. edit_goes s begun_kept k a fresh_one now_begun op r f d edits (fresh_ready k.history k.history i))
 

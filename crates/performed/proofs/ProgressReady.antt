@@ -1,5 +1,5 @@
 -- An edit whose turn begins is ready: an attempt under way has an update to send, and the end of the epoch of a decided one was told.
-use Rattle.std.proofs.Common.{◌≡◌, ℕ, ◌||◌, Bool, true, false, Option, Some, None, is_some, List, refl, sym, ap, ◌∙◌, subst}
+use Rattle.std.proofs.Common.{◌≡◌, ℕ, ◌||◌, Bool, true, false, Option, Some, None, is_some, List, sym, ap, ◌∙◌, subst}
 use Rattle.card_model.specs.declared.world.World.{World}
 use Rattle.script_reader.specs.declared.types.Script.{Script}
 use Rattle.script_reader.specs.Rules.{keeps_rules}
