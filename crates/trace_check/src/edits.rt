@@ -17,6 +17,8 @@ ghost use Rattle.trace_check.specs.Edits as spec;
 ghost use Rattle.trace_check.specs.Judging.{is_sent};
 
 use crate::books::{book_in, edit_of, make_edit, same_book};
+use crate::card::card_inside;
+use crate::holdings::{has_needed_session, lives_in};
 use crate::plans::{first_update, has_updates, is_update, plan_now};
 use crate::same::same_bytes;
 use crate::verifications::turn_operation;
@@ -27,7 +29,7 @@ use card_rows::{file_of, rule_of};
 use editor::{Attempt, family_paths};
 use fcp::Need;
 use link::{Chain, same_command};
-use planner::{begun_of, card_inside, lacking_key, lives_in, operation_now};
+use planner::{begun_of, operation_now};
 use report::{Answer, Line};
 use rules::{Begun, Kept, Work};
 use script::{Operation, Script};
@@ -115,7 +117,7 @@ fn allowed_on<'a>(
         ≡ rules.allowed_on kept.now (spec.turn_of turn.now) card.now update.now }
 {
     let need = family_need(card, turn.family, update.file);
-    if lacking_key(kept.history, turn.actor, &kept.sessions, need).is_none() {
+    if has_needed_session(kept.history, turn.actor, &kept.sessions, need) {
         Some(update)
     } else {
         None

@@ -7,6 +7,7 @@ ghost use Rattle.trace_check.specs.Judging as spec;
 
 use crate::answers::{are_answers_given, has_right_answer};
 use crate::behind::{Behind, Bench};
+use crate::card::card_inside;
 use crate::channels::are_channels_right;
 use crate::edits::{has_right_done, is_lost_update_right, is_update_right, update_before};
 use crate::exchanging::{is_answered_with, lose};
@@ -17,7 +18,7 @@ use crate::snapshots::has_right_snapshot;
 use crate::turns::{has_right_place, is_turn_right};
 use crate::verifications::has_right_verify;
 use apdu::{Command, Memory, Response};
-use planner::{card_inside, is_finished};
+use planner::is_finished;
 use report::Line;
 
 /// The number of the rule of responses.

@@ -16,6 +16,6 @@ pub follow-requires-clause-tested : goal.follow-requires-clause-tested
 follow-requires-clause-tested c =
     let none : is_some c.in_ok-broken.broken ≡ false = c.is_none.ensures ∙ ap not c.if-is_none.true in
     tested_follow c.args.self.now.script.now c.args.self.now.mode c.args.line.now c.args.behind.now c.test.new.behind
-      (c.has_room.ensures c.if-not-has_room.false)
-      (sym c.in_ok-broken.ensures.broken ∙ none_of c.in_ok-broken.broken none)
-      (c.in_ok-broken.ensures.tested (ok_of c.in_ok-broken.broken none))
+    (c.has_room.ensures c.if-not-has_room.false)
+    (sym c.in_ok-broken.ensures.broken ∙ none_of c.in_ok-broken.broken none)
+    (c.in_ok-broken.ensures.tested (ok_of c.in_ok-broken.broken none))
