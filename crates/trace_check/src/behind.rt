@@ -13,9 +13,10 @@ ghost use Rattle.trace_check.specs.Judging as spec;
 use crate::boards::{Boards, keep_board};
 use crate::displays::{Displays, first_displays, refresh_all, tell_all};
 use crate::edits::is_update_ins;
+use crate::exchanging::{happen, reset};
 use crate::plans::FamilyPlans;
 use apdu::{Memory, Sequence};
-use card_model::{ScriptedSlot, Slot, World};
+use card_model::World;
 use planner::{decision_at_begin, decision_at_turn, handles_fit, turn_fits};
 use report::{Line, Mode, Report};
 use script::Script;
@@ -74,7 +75,6 @@ impl Behind {
 }
 
 /// A line that is no exchange happens to the world, if it is one that the slot takes.
-#[tactic(auto, using(crate::proofs::Following::reset_of_nothing))]
 fn step_world(line: &Line, slot: &mut SimSlot)
     requires faults { slot.old.plan.faults ≡ [] }
     requires taken { spec.is_refused slot.old.world line.now ≡ false }
@@ -82,12 +82,8 @@ fn step_world(line: &Line, slot: &mut SimSlot)
     ensures faults { slot.new.plan.faults ≡ [] }
 {
     match line {
-        Line::Reset { .. } => {
-            let _ = slot.reset();
-        }
-        Line::World { event, .. } => {
-            let _ = slot.world(event);
-        }
+        Line::Reset { .. } => reset(slot),
+        Line::World { event, .. } => happen(slot, event),
         _ => {}
     }
 }
@@ -232,7 +228,6 @@ impl Bench<'_> {
     }
 
     /// What stands behind a line that breaks no rule. The card has the command of an exchange already.
-    #[tactic(auto, using(crate::proofs::Still::shown_followed))]
     pub fn follow(&self, line: &Line, behind: &mut Behind) -> Result<(), Memory>
         requires rules { keeps_rules self.now.script.now ≡ true }
         requires tested { spec.MayFollow line.now behind.old }

@@ -227,7 +227,6 @@ impl Bench<'_> {
     }
 
     /// The lowest rule that is broken at a line; where none is, what stands behind it.
-    #[tactic(auto, using(crate::proofs::Sent::tested_follow, crate::proofs::Sent::tested_follows))]
     pub fn judge(&self, behind: &mut Behind, line: &Line) -> Result<Option<u8>, Memory>
         requires rules { keeps_rules self.now.script.now ≡ true }
         requires ready { spec.IsReady behind.old }
@@ -239,11 +238,13 @@ impl Bench<'_> {
         if !behind.has_room() {
             return Err(Memory);
         }
-        let broken = self.test(behind, line)?;
-        if broken.is_none() {
-            self.follow(line, behind)?;
+        match self.test(behind, line)? {
+            Some(rule) => Ok(Some(rule)),
+            None => {
+                self.follow(line, behind)?;
+                Ok(None)
+            }
         }
-        Ok(broken)
     }
 
     /// The lowest rule that is broken at the end of the report.
