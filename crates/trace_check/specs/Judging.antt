@@ -86,6 +86,14 @@ pub record HasSpace (b : Behind) : Type 0 where
   pub handles : handles_fit b.tracker.handles ≡ true
   pub turn : turn_fits b.tracker.turn.actor b.tracker.jobs ≡ true
 
+-- what is kept behind the line may ask for memory
+abbrev pub asks_memory : Line → Bool
+asks_memory (line.Turn a) = true
+asks_memory (line.Begin a i) = true
+asks_memory (line.Exchange a c r) = true
+asks_memory (line.Answered a i given) = true
+asks_memory l = false
+
 -- the slot refuses the line's event of the world
 abbrev pub is_refused : World → Line → Bool
 is_refused world (line.World a e) = is_some (refusal_of world e)

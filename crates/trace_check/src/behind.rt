@@ -133,6 +133,30 @@ fn keep_displays(
     }
 }
 
+/// What is kept behind a line that asks for no memory.
+fn keep_plain(script: &Script, line: &Line, tracker: &mut Tracker)
+    requires plain { spec.asks_memory line.now ≡ false }
+    requires room { HasRoom tracker.old }
+    ensures { tracker.new ≡ kept_after script.now line.now tracker.old }
+{
+    match line {
+        Line::Failed { .. } => tracker.fail(script, line),
+        Line::Reset { actor } => tracker.reset(script, *actor),
+        Line::ResetFailed { actor } => tracker.fail_reset(script, *actor),
+        Line::World { actor, event } => tracker.happen(script, *actor, *event),
+        Line::Published { .. } => tracker.publish(script, line),
+        Line::EpochEnd {
+            number,
+            epoch,
+            event,
+        } => tracker.end_epoch(script, *number, *epoch, *event),
+        Line::Refused { family, event } => tracker.refuse(script, *family, *event),
+        Line::Turn { .. } | Line::Begin { .. } | Line::Exchange { .. } | Line::Answered { .. } => {
+            unreachable!()
+        }
+    }
+}
+
 /// By what lines are judged.
 #[derive(Drop)]
 pub struct Bench<'a> {
@@ -206,25 +230,16 @@ impl Bench<'_> {
         ensures { OnOk result (tracker.new
             ≡ kept_after self.now.script.now line.now tracker.old) }
     {
-        let script = self.script;
         match line {
-            Line::Turn { actor } => return self.keep_turn(*actor, tracker),
-            Line::Begin { actor, op } => return self.keep_begin(*actor, *op, tracker),
-            Line::Exchange { .. } => return self.keep_exchange(line, tracker),
-            Line::Failed { .. } => tracker.fail(script, line),
-            Line::Reset { actor } => tracker.reset(script, *actor),
-            Line::ResetFailed { actor } => tracker.fail_reset(script, *actor),
-            Line::World { actor, event } => tracker.happen(script, *actor, *event),
-            Line::Published { .. } => tracker.publish(script, line),
-            Line::EpochEnd {
-                number,
-                epoch,
-                event,
-            } => tracker.end_epoch(script, *number, *epoch, *event),
-            Line::Refused { family, event } => tracker.refuse(script, *family, *event),
-            Line::Answered { .. } => return tracker.answer(script, line),
+            Line::Turn { actor } => self.keep_turn(*actor, tracker),
+            Line::Begin { actor, op } => self.keep_begin(*actor, *op, tracker),
+            Line::Exchange { .. } => self.keep_exchange(line, tracker),
+            Line::Answered { .. } => tracker.answer(self.script, line),
+            _ => {
+                keep_plain(self.script, line, tracker);
+                Ok(())
+            }
         }
-        Ok(())
     }
 
     /// What stands behind a line that breaks no rule. The card has the command of an exchange already.
