@@ -102,7 +102,6 @@ fn writes_nothing(line: &Line) -> bool
 
 /// What the card shows, and the board, behind a line, which left this world; `event` is its number where it is one. Where no file was
 /// written, what the card showed before is what it shows.
-#[tactic(auto, using(crate::proofs::Still::stays_behind))]
 fn keep_displays(
     alloc: Global,
     line: &Line,
