@@ -8,10 +8,10 @@ use Rattle.report.specs.declared.lines.Report.{Report}
 use Rattle.report_reader.specs.Reports.{report_of}
 use Rattle.rules.specs.History.{is_event}
 use Rattle.rules.specs.Legal.{legal, first_broken}
-use Rattle.uicc_replay.specs.declared.check.Checked.{Checked}
-use Rattle.uicc_replay.specs.declared.check.Checked.TheVariants.{Legal, Illegal, NoReport}
+use Rattle.uicc_replay.specs.declared.check.Verdict.{Verdict}
+use Rattle.uicc_replay.specs.declared.check.Verdict.TheVariants.{Legal, Illegal, NoReport}
 use Rattle.uicc_replay.specs.declared.top.Ending.{Ending}
-use Rattle.uicc_replay.specs.declared.top.Ending.TheVariants.{Usage, TooLong, Refused, ReadFault, Spent, Memory, Replayed, Generated, Checked as WasChecked}
+use Rattle.uicc_replay.specs.declared.top.Ending.TheVariants.{Usage, TooLong, Refused, ReadFault, Spent, Memory, Replayed, Generated, Checked}
 
 -- the most bytes that a report may have
 abbrev pub report_limit : ℕ
@@ -33,19 +33,19 @@ pub record IsLegal (r : Report) (lines events : ℕ) : Type 0 where
   pub happened : events ≡ event_count r.lines
 
 -- what is said of a report
-abbrev pub IsSaid : Report → Checked → Type 0
+abbrev pub IsSaid : Report → Verdict → Type 0
 IsSaid r (Legal lines events) = IsLegal r lines events
 IsSaid r (Illegal line rule) = first_broken r ≡ Some (line, rule)
 IsSaid r (NoReport line) = ⊥
 
 -- the bytes are a report, of which this is said
-pub record IsSaidOf (bytes : List ℕ) (c : Checked) : Type 0 where
+pub record IsSaidOf (bytes : List ℕ) (v : Verdict) : Type 0 where
   pub report : Report
   pub read : report_of bytes ≡ Ok report
-  pub said : IsSaid report c
+  pub said : IsSaid report v
 
 -- what is said of bytes: where they are no report, the first line that has no place
-abbrev pub IsChecked : List ℕ → Checked → Type 0
+abbrev pub IsChecked : List ℕ → Verdict → Type 0
 IsChecked bytes (Legal lines events) = IsSaidOf bytes (Legal lines events)
 IsChecked bytes (Illegal line rule) = IsSaidOf bytes (Illegal line rule)
 IsChecked bytes (NoReport line) = report_of bytes ≡ Err line
@@ -55,29 +55,29 @@ IsChecked bytes (NoReport line) = report_of bytes ≡ Err line
 abbrev pub numbers_line : List ℕ → ℕ → ℕ → List ℕ
 numbers_line word first second = word ++ decimal first ++ codes " " ++ decimal second ++ codes "\n"
 
-abbrev pub told_of : Checked → List ℕ
+abbrev pub told_of : Verdict → List ℕ
 told_of (Legal lines events) = numbers_line (codes "legal ") lines events
 told_of (Illegal line rule) = numbers_line (codes "illegal ") line rule
 told_of (NoReport line) = codes "refused line " ++ decimal line ++ codes "\n"
 
-abbrev pub status_of_checked : Checked → ℕ
-status_of_checked (Legal lines events) = 0
-status_of_checked (Illegal line rule) = 7
-status_of_checked (NoReport line) = 3
+abbrev pub status_of_verdict : Verdict → ℕ
+status_of_verdict (Legal lines events) = 0
+status_of_verdict (Illegal line rule) = 7
+status_of_verdict (NoReport line) = 3
 
 -- ---- causes
 
 -- the ending of what is said
-abbrev pub IsDueOfChecked : Checked → Ending → Type 0
-IsDueOfChecked c Usage = ⊥
-IsDueOfChecked c TooLong = ⊥
-IsDueOfChecked c (Refused line) = ⊥
-IsDueOfChecked c ReadFault = ⊥
-IsDueOfChecked c (Spent line) = ⊥
-IsDueOfChecked c Memory = Unit {0}
-IsDueOfChecked c (Replayed report text) = ⊥
-IsDueOfChecked c (Generated text) = ⊥
-IsDueOfChecked c (WasChecked checked line) = (checked ≡ c) × (line ≡ told_of checked)
+abbrev pub IsDueOfVerdict : Verdict → Ending → Type 0
+IsDueOfVerdict v Usage = ⊥
+IsDueOfVerdict v TooLong = ⊥
+IsDueOfVerdict v (Refused line) = ⊥
+IsDueOfVerdict v ReadFault = ⊥
+IsDueOfVerdict v (Spent line) = ⊥
+IsDueOfVerdict v Memory = Unit {0}
+IsDueOfVerdict v (Replayed report text) = ⊥
+IsDueOfVerdict v (Generated text) = ⊥
+IsDueOfVerdict v (Checked verdict line) = (verdict ≡ v) × (line ≡ told_of verdict)
 
 -- the ending of the bytes of a report
 abbrev pub IsDueOfReportBytes : List ℕ → Ending → Type 0
@@ -89,14 +89,14 @@ IsDueOfReportBytes bytes (Spent line) = ⊥
 IsDueOfReportBytes bytes Memory = Unit {0}
 IsDueOfReportBytes bytes (Replayed report text) = ⊥
 IsDueOfReportBytes bytes (Generated text) = ⊥
-IsDueOfReportBytes bytes (WasChecked checked line) = IsChecked bytes checked × (line ≡ told_of checked)
+IsDueOfReportBytes bytes (Checked verdict line) = IsChecked bytes verdict × (line ≡ told_of verdict)
 
 -- bytes were read of which this is said, and the line tells it
-pub record IsToldOfRead (before after : SourceValue) (c : Checked) (line : List ℕ) : Type 0 where
+pub record IsToldOfRead (before after : SourceValue) (v : Verdict) (line : List ℕ) : Type 0 where
   pub bytes : List ℕ
   pub read : IsRead report_limit before after bytes
-  pub checked : IsChecked bytes c
-  pub told : line ≡ told_of c
+  pub checked : IsChecked bytes v
+  pub told : line ≡ told_of v
 
 -- the cause of each ending of a check
 abbrev pub IsDueOfCheck : SourceValue → SourceValue → Ending → Type 0
@@ -108,15 +108,15 @@ IsDueOfCheck before after (Spent line) = ⊥
 IsDueOfCheck before after Memory = Unit {0}
 IsDueOfCheck before after (Replayed report text) = ⊥
 IsDueOfCheck before after (Generated text) = ⊥
-IsDueOfCheck before after (WasChecked checked line) = IsToldOfRead before after checked line
+IsDueOfCheck before after (Checked verdict line) = IsToldOfRead before after verdict line
 
 -- ---- what a call did
 
 -- bytes were read and checked; this status says what is said of them, and so does the line that was written
-pub record HasChecked (status : ℕ) (before after : StreamsValue) : Type 0 where
+pub record HasChecked (code : ℕ) (before after : StreamsValue) : Type 0 where
   pub bytes : List ℕ
   pub read : IsRead report_limit before.source after.source bytes
-  pub checked : Checked
-  pub is : IsChecked bytes checked
-  pub status : status_of_checked checked ≡ status
-  pub text : Wrote before after (told_of checked)
+  pub verdict : Verdict
+  pub checked : IsChecked bytes verdict
+  pub status : status_of_verdict verdict ≡ code
+  pub text : Wrote before after (told_of verdict)

@@ -14,7 +14,7 @@ use Rattle.streams.specs.Streams.{SourceValue, SinkValue, StreamsValue, HasMore,
 use Rattle.report.specs.declared.lines.Report.{Report}
 use Rattle.report.specs.Texts.{report_text}
 use Rattle.performed.specs.Served.{serves}
-use Rattle.uicc_replay.specs.Checking.{report_limit, status_of_checked, HasChecked, IsDueOfCheck}
+use Rattle.uicc_replay.specs.Checking.{report_limit, status_of_verdict, HasChecked, IsDueOfCheck}
 use Rattle.uicc_replay.specs.Replay.{IsReplay, IsSpent}
 use Rattle.uicc_replay.specs.declared.top.Ending.{Ending}
 use Rattle.uicc_replay.specs.declared.top.Ending.TheVariants.{Usage, TooLong, Refused, ReadFault, Spent, Memory, Replayed, Generated, Checked}
@@ -102,7 +102,7 @@ piece_of (Spent line) = line
 piece_of Memory = memory_line
 piece_of (Replayed report text) = text
 piece_of (Generated text) = text
-piece_of (Checked checked line) = line
+piece_of (Checked verdict line) = line
 
 abbrev pub status_of : Ending → ℕ
 status_of Usage = 2
@@ -113,7 +113,7 @@ status_of (Spent line) = 6
 status_of Memory = 9
 status_of (Replayed report text) = 0
 status_of (Generated text) = 0
-status_of (Checked checked line) = status_of_checked checked
+status_of (Checked verdict line) = status_of_verdict verdict
 
 abbrev pub report_of : Ending → Option Report
 report_of Usage = None
@@ -124,7 +124,7 @@ report_of (Spent line) = None
 report_of Memory = None
 report_of (Replayed report text) = Some report
 report_of (Generated text) = None
-report_of (Checked checked line) = None
+report_of (Checked verdict line) = None
 
 -- ---- reading
 
@@ -177,7 +177,7 @@ IsDueOfBudget events (Spent line) = line ≡ budget_line events
 IsDueOfBudget events Memory = Unit {0}
 IsDueOfBudget events (Replayed report text) = ⊥
 IsDueOfBudget events (Generated text) = ⊥
-IsDueOfBudget events (Checked checked line) = ⊥
+IsDueOfBudget events (Checked verdict line) = ⊥
 
 -- the ending of a report
 abbrev pub IsDueOfReport : Report → Ending → Type 0
@@ -189,7 +189,7 @@ IsDueOfReport r (Spent line) = ⊥
 IsDueOfReport r Memory = Unit {0}
 IsDueOfReport r (Replayed report text) = (report ≡ r) × (text ≡ report_text report)
 IsDueOfReport r (Generated text) = ⊥
-IsDueOfReport r (Checked checked line) = ⊥
+IsDueOfReport r (Checked verdict line) = ⊥
 
 -- the ending of a script
 abbrev pub IsDueOfScript : Script → Ending → Type 0
@@ -201,7 +201,7 @@ IsDueOfScript s (Spent line) = TellsSpent s line
 IsDueOfScript s Memory = Unit {0}
 IsDueOfScript s (Replayed report text) = (report.script ≡ s) × IsReplay report × (text ≡ report_text report)
 IsDueOfScript s (Generated text) = ⊥
-IsDueOfScript s (Checked checked line) = ⊥
+IsDueOfScript s (Checked verdict line) = ⊥
 
 -- the bytes are a script, and the line tells by how many events its budget is spent
 pub record TellsSpentOf (bytes line : List ℕ) : Type 0 where
@@ -219,7 +219,7 @@ IsDueOfBytes bytes (Spent line) = TellsSpentOf bytes line
 IsDueOfBytes bytes Memory = Unit {0}
 IsDueOfBytes bytes (Replayed report text) = (script_of_bytes bytes ≡ Ok report.script) × IsReplay report × (text ≡ report_text report)
 IsDueOfBytes bytes (Generated text) = ⊥
-IsDueOfBytes bytes (Checked checked line) = ⊥
+IsDueOfBytes bytes (Checked verdict line) = ⊥
 
 -- bytes were read of which this is the ending
 pub record IsDueOfRead (before after : SourceValue) (e : Ending) : Type 0 where
@@ -237,7 +237,7 @@ IsDueOfSource before after (Spent line) = IsDueOfRead before after (Spent line)
 IsDueOfSource before after Memory = Unit {0}
 IsDueOfSource before after (Replayed report text) = IsDueOfRead before after (Replayed report text)
 IsDueOfSource before after (Generated text) = ⊥
-IsDueOfSource before after (Checked checked line) = ⊥
+IsDueOfSource before after (Checked verdict line) = ⊥
 
 -- the ending of a generated script
 abbrev pub IsDueOfSizes : ℕ → ℕ → Ending → Type 0
@@ -249,7 +249,7 @@ IsDueOfSizes seed size (Spent line) = ⊥
 IsDueOfSizes seed size Memory = Unit {0}
 IsDueOfSizes seed size (Replayed report text) = ⊥
 IsDueOfSizes seed size (Generated text) = text ≡ generated_text seed size
-IsDueOfSizes seed size (Checked checked line) = ⊥
+IsDueOfSizes seed size (Checked verdict line) = ⊥
 
 -- a script is generated, and nothing is read
 pub record IsGenerated (seed size : ℕ) (before after : SourceValue) (e : Ending) : Type 0 where
@@ -266,7 +266,7 @@ IsDueOfNone (Spent line) = ⊥
 IsDueOfNone Memory = Unit {0}
 IsDueOfNone (Replayed report text) = ⊥
 IsDueOfNone (Generated text) = ⊥
-IsDueOfNone (Checked checked line) = ⊥
+IsDueOfNone (Checked verdict line) = ⊥
 
 -- such words read nothing
 pub record IsUsage (before after : SourceValue) (e : Ending) : Type 0 where

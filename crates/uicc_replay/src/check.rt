@@ -6,7 +6,7 @@ ghost use Rattle.rules.specs.Legal.{legal as is_legal};
 ghost use Rattle.script_reader.specs.Rules.{keeps_rules};
 ghost use Rattle.trace_check.specs.UpTo.{seen};
 ghost use Rattle.uicc_replay.specs.Checking as spec;
-ghost use Rattle.uicc_replay.specs.Checking.{IsChecked, IsDueOfCheck, IsDueOfChecked, IsDueOfReportBytes, IsSaid};
+ghost use Rattle.uicc_replay.specs.Checking.{IsChecked, IsDueOfCheck, IsDueOfVerdict, IsDueOfReportBytes, IsSaid};
 
 use crate::text::{put, put_numbered};
 use crate::top::Ending;
@@ -20,7 +20,7 @@ use trace_check::{CheckError, check};
 
 /// What is said of the bytes of a report.
 #[derive(Clone, Copy, Debug, PartialEq, Eq)]
-pub enum Checked {
+pub enum Verdict {
     /// They are a legal report, of so many lines and events.
     Legal { lines: u64, events: u64 },
     /// They are a report. Up to this line the rule is broken, and none up to a line before it, nor a lower one.
@@ -29,15 +29,15 @@ pub enum Checked {
     NoReport { line: u64 },
 }
 
-impl Checked {
+impl Verdict {
     /// The status that says so.
     pub fn status(&self) -> u8
-        ensures { result ≡ spec.status_of_checked self.now }
+        ensures { result ≡ spec.status_of_verdict self.now }
     {
         match self {
-            Checked::Legal { .. } => 0,
-            Checked::Illegal { .. } => 7,
-            Checked::NoReport { .. } => 3,
+            Verdict::Legal { .. } => 0,
+            Verdict::Illegal { .. } => 7,
+            Verdict::NoReport { .. } => 3,
         }
     }
 }
@@ -103,7 +103,7 @@ fn event_count(lines: &Lines) -> Result<u64, Memory>
 // ---- what is said
 
 /// What is said of a legal report.
-fn legal_report(report: &Report) -> Result<Checked, Memory>
+fn verdict_on_legal(report: &Report) -> Result<Verdict, Memory>
     requires { is_legal report.now ≡ true }
     ensures { IfOk result (IsSaid report.now) }
 {
@@ -111,32 +111,32 @@ fn legal_report(report: &Report) -> Result<Checked, Memory>
         return Err(Memory);
     }
     let events = event_count(&report.lines)?;
-    Ok(Checked::Legal {
+    Ok(Verdict::Legal {
         lines: report.lines.len() as u64 + 3,
         events,
     })
 }
 
 /// What is said of a report.
-fn checked_report(alloc: Global, report: &Report) -> Result<Checked, Memory>
+fn verdict_on(alloc: Global, report: &Report) -> Result<Verdict, Memory>
     requires { keeps_rules report.now.script ≡ true }
     ensures { IfOk result (IsSaid report.now) }
 {
     legal_or_broken();
     match check(alloc, report) {
-        Ok(()) => legal_report(report),
-        Err(CheckError::Illegal { line, rule }) => Ok(Checked::Illegal { line, rule }),
+        Ok(()) => verdict_on_legal(report),
+        Err(CheckError::Illegal { line, rule }) => Ok(Verdict::Illegal { line, rule }),
         Err(CheckError::Memory) => Err(Memory),
     }
 }
 
 /// What is said of bytes.
-fn checked(alloc: Global, bytes: &[u8]) -> Result<Checked, Memory>
+fn verdict_of(alloc: Global, bytes: &[u8]) -> Result<Verdict, Memory>
     ensures { IfOk result (IsChecked bytes.now) }
 {
     match read_report(alloc, bytes) {
-        Ok(report) => checked_report(alloc, &report),
-        Err(ReportError::Refused { line }) => Ok(Checked::NoReport { line }),
+        Ok(report) => verdict_on(alloc, &report),
+        Err(ReportError::Refused { line }) => Ok(Verdict::NoReport { line }),
         Err(ReportError::Memory) => Err(Memory),
     }
 }
@@ -163,25 +163,25 @@ fn no_report_text(alloc: Global, line: u64) -> Result<Text, Memory>
 }
 
 /// How it is told what is said.
-fn checked_text(alloc: Global, checked: &Checked) -> Result<Text, Memory>
-    ensures { IfOk result (λ text. text ≡ spec.told_of checked.now) }
+fn verdict_text(alloc: Global, verdict: &Verdict) -> Result<Text, Memory>
+    ensures { IfOk result (λ text. text ≡ spec.told_of verdict.now) }
 {
-    match checked {
-        Checked::Legal { lines, events } => numbers_text(alloc, "legal ", *lines, *events),
-        Checked::Illegal { line, rule } => {
+    match verdict {
+        Verdict::Legal { lines, events } => numbers_text(alloc, "legal ", *lines, *events),
+        Verdict::Illegal { line, rule } => {
             numbers_text(alloc, "illegal ", *line, u64::from(*rule))
         }
-        Checked::NoReport { line } => no_report_text(alloc, *line),
+        Verdict::NoReport { line } => no_report_text(alloc, *line),
     }
 }
 
 // ---- endings
 
-fn ending_of_checked(alloc: Global, checked: Checked) -> Ending
-    ensures { IsDueOfChecked checked result }
+fn ending_of_verdict(alloc: Global, verdict: Verdict) -> Ending
+    ensures { IsDueOfVerdict verdict result }
 {
-    match checked_text(alloc, &checked) {
-        Ok(line) => Ending::Checked { checked, line },
+    match verdict_text(alloc, &verdict) {
+        Ok(line) => Ending::Checked { verdict, line },
         Err(_) => Ending::Memory,
     }
 }
@@ -190,8 +190,8 @@ fn ending_of_checked(alloc: Global, checked: Checked) -> Ending
 fn ending_of_report_bytes(alloc: Global, bytes: &[u8]) -> Ending
     ensures { IsDueOfReportBytes bytes.now result }
 {
-    match checked(alloc, bytes) {
-        Ok(checked) => ending_of_checked(alloc, checked),
+    match verdict_of(alloc, bytes) {
+        Ok(verdict) => ending_of_verdict(alloc, verdict),
         Err(_) => Ending::Memory,
     }
 }

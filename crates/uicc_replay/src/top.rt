@@ -7,7 +7,7 @@ ghost use Rattle.subcommands.specs.Subcommands.{HasSize, subcommand_of};
 ghost use Rattle.uicc_replay.specs.Checking.{HasChecked};
 ghost use Rattle.uicc_replay.specs.Top.{served, reads, line_of, is_status, script_limit, limit_of, IsDue, IsDueOfSource, IsDueOfBytes, IsDueOfScript, IsDueOfReport, IsDueOfBudget, IsDueOfLine, IsDueOfSizes, IsDone, IsRefused, IsBudgetSpent, WritesPart, Writes, Ends};
 
-use crate::check::{Checked, ending_of_check};
+use crate::check::{Verdict, ending_of_check};
 use crate::replay::{Replayed, replay};
 use crate::text::{budget_text, generated_text, refused_text};
 use apdu::{Bytes, Memory, Sink, Source, Text};
@@ -45,7 +45,7 @@ pub enum Ending {
     /// The script was generated; this is its text.
     Generated { text: Bytes },
     /// This is said of the report; this line tells it.
-    Checked { checked: Checked, line: Text },
+    Checked { verdict: Verdict, line: Text },
 }
 
 /// The most bytes that a script may have.
@@ -214,8 +214,8 @@ fn write_ending<S: Source, K: Sink>(streams: &mut Streams<S, K>, ending: Ending)
             write_piece(streams, 0, Some(report), text.as_slice())
         }
         Ending::Generated { text } => write_piece(streams, 0, None, text.as_slice()),
-        Ending::Checked { checked, line } => {
-            write_piece(streams, checked.status(), None, line.as_str().as_bytes())
+        Ending::Checked { verdict, line } => {
+            write_piece(streams, verdict.status(), None, line.as_str().as_bytes())
         }
     }
 }
