@@ -1,4 +1,5 @@
 pub mod Budget
+pub mod Checking
 pub mod Replay
 pub mod Rounds
 pub mod Top
