@@ -120,7 +120,8 @@ module _ (k : Kept) where
   work_calm actor b operation.Look served = refl
   work_calm actor b (operation.Set f at name number) served = edit_calm actor b (family_edit (operation.Set f at name number))
   work_calm actor b (operation.Clear f at) served = edit_calm actor b (family_edit (operation.Clear f at))
-  work_calm actor b op served = absurd (true≢false (sym served))
+  work_calm actor b (operation.Watch mask) served = refl
+  work_calm actor b operation.Notices served = refl
 
   begun_calm : (actor : ℕ) (b : Option Begun) (o : Option Operation) → IsPlain o → is_calm_work (decision_of_begun k actor b o).work ≡ true
   begun_calm actor None o p = refl

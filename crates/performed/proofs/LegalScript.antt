@@ -126,7 +126,8 @@ family_of_op b (operation.End key) served form = refl
 family_of_op b operation.Look served form = refl
 family_of_op b (operation.Set f at name number) served form = if_some (is_edit_over b.editing) (Some f) (below_three f form)
 family_of_op b (operation.Clear f at) served form = if_some (is_edit_over b.editing) (Some f) (below_three f form)
-family_of_op b op served form = absurd (true≢false (sym served))
+family_of_op b (operation.Watch mask) served form = refl
+family_of_op b operation.Notices served form = refl
 
 module _ (k : Kept) where
   begun_family : (b : Option Begun) (o : Option Operation) → IsPlain o → is_family_or_none (family_of_begun k b o) ≡ true

@@ -1,4 +1,5 @@
--- An actor of a script that is served has answered at most 1000 operations, plans updates that fit into commands, and has no mailbox.
+-- An actor of a script that is served has answered at most 1000 operations, plans updates that fit into commands, and dropped no more notices
+-- than there were publications.
 use Rattle.std.proofs.Common.{◌≡◌, ℕ, zero, suc, ◌+◌, ◌≤◌, ◌==◌, ◌&&◌, true, List, [], ◌∷◌, length, Option, Some, None, refl, ap, ◌∙◌, arith}
 use Rattle.std.specs.Prelude.{nat_le, slice_get, unwrap_or}
 use Rattle.std.specs.List.{list_all}
@@ -42,16 +43,16 @@ most s h =
     let a6 = and_parts (is_between 1 8 (length s.actors)) (nat_le (operation_count s.actors) 1000) a5.0 in
     leb-true (operation_count s.actors) 1000 a6.1
 
-plain_job : (s : Script) (events i : ℕ) (x : Job) → keeps_rules s ≡ true → KeepsJob s i x → HasShortPlan events x.begun → IsPlainJob events x
-plain_job s events i x rules h short =
+plain_job : (s : Script) (events n i : ℕ) (x : Job) → keeps_rules s ≡ true → KeepsJob s n i x → HasShortPlan events x.begun → IsPlainJob events n x
+plain_job s events n i x rules h short =
     let a = h.answered in
     let b = count_of_actor s i in
     let c = most s rules in
     record { answered = omega arith; updates = short; mailbox = h.mailbox }
 
-plain_jobs : (events : ℕ) (jobs : List Job) → ((i : ℕ) (x : Job) → slice_get jobs i ≡ Some x → IsPlainJob events x) → ArePlainJobs events jobs
-plain_jobs events [] h = tt
-plain_jobs events (job ∷ jobs) h = (h 0 job refl, plain_jobs events jobs (λ i x e. h (suc i) x e))
+plain_jobs : (events n : ℕ) (jobs : List Job) → ((i : ℕ) (x : Job) → slice_get jobs i ≡ Some x → IsPlainJob events n x) → ArePlainJobs events n jobs
+plain_jobs events n [] h = tt
+plain_jobs events n (job ∷ jobs) h = (h 0 job refl, plain_jobs events n jobs (λ i x e. h (suc i) x e))
 
 job_short : (events i : ℕ) (jobs : List Job) (x : Job) → ((b : Begun) → begun_of i jobs ≡ Some b → IsShortPlan events b.editing.attempt) → slice_get jobs i ≡ Some x → HasShortPlan events x.begun
 job_short events i jobs x each here = by_begun x.begun refl
@@ -62,9 +63,9 @@ job_short events i jobs x each here = by_begun x.begun refl
 
 pub stays_plain : PlansFit → (s : Script) (lines : List Line) → keeps_rules s ≡ true → serves s ≡ true → are_followed s lines ≡ true → IsPlain (kept_of s lines)
 stays_plain law s lines rules serving followed =
-    let h : Keeps s (kept_of s lines) = keeps s lines serving followed in
+    let h : Keeps s (kept_of s lines) = keeps s lines followed in
     let k : Kept = kept_of s lines in
     record {
-      jobs = plain_jobs k.history.events k.jobs (λ i x here. plain_job s k.history.events i x rules (h.jobs i x here) (job_short k.history.events i k.jobs x (attempts_short law s lines i) here));
+      jobs = plain_jobs k.history.events k.publications k.jobs (λ i x here. plain_job s k.history.events k.publications i x rules (h.jobs i x here) (job_short k.history.events i k.jobs x (attempts_short law s lines i) here));
       handles = h.handles;
     }

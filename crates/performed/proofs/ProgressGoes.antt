@@ -301,4 +301,5 @@ module _ (s : Script) (k before : Kept) (actor : ℕ) (b now : Begun) where
   operation_goes operation.Look served r edits = goes_by_answer s k (ap is_some (answers operation.Look r))
   operation_goes (operation.Set f at name number) served r edits = edits f (edit.Set at (record { name = name; number = number })) refl
   operation_goes (operation.Clear f at) served r edits = edits f (edit.Clear at) refl
-  operation_goes op served r edits = absurd (true≢false (sym served))
+  operation_goes (operation.Watch mask) served r edits = goes_by_answer s k (ap is_some (answers (operation.Watch mask) r))
+  operation_goes operation.Notices served r edits = goes_by_answer s k (ap is_some (answers operation.Notices r))

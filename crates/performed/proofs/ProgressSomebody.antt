@@ -134,4 +134,4 @@ module _ (s : Script) (k : Kept) where
   by_work false h kept fin = some_actor (first_actor (has_operations_left s k) 0 s.actors) refl (left_open (all_answered s k) (has_work k) fin h) kept h
 
 pub somebody : SomebodyMoves
-somebody s lines served followed fin = by_work s (kept_of s lines) (has_work (kept_of s lines)) refl (keeps s lines served followed) fin
+somebody s lines served followed fin = by_work s (kept_of s lines) (has_work (kept_of s lines)) refl (keeps s lines followed) fin

@@ -105,7 +105,7 @@ module _ (s : Script) (serving : serves s ≡ true) (earlier : List Line) (a : �
       from (line.Published number g e n text) u h f = publishes number g e n text h
       from (line.EpochEnd number e n) u h f = absurd (end_stands s now number e n h calm.ended)
       from (line.Refused g n) u h f = absurd (refusal_told g n h)
-      from (line.Answered x op given) u h f = moves_now s serving earlier a (line.Answered x op given) added (answer_moves s now x op given h (keeps s (added ++ line.Turn a ∷ earlier) serving f))
+      from (line.Answered x op given) u h f = moves_now s serving earlier a (line.Answered x op given) added (answer_moves s now x op given h (keeps s (added ++ line.Turn a ∷ earlier) f))
       from (line.Exchange x c r) u h f = event (line.Exchange x c r) refl
       from (line.Failed x c d) u h f = event (line.Failed x c d) refl
       from (line.Reset x) u h f = event (line.Reset x) refl

@@ -11,6 +11,7 @@ use Rattle.report.specs.declared.lines.Report.{Report}
 use Rattle.adn.specs.declared.edit.RowUpdate.{RowUpdate}
 use Rattle.families.specs.Plans.{plan_updates}
 use Rattle.editor.specs.declared.editing.Attempt.{Attempt}
+use Rattle.watchers.specs.declared.mailbox.Mailbox.{Mailbox}
 use Rattle.rules.specs.declared.holdings.Handle.{Handle}
 use Rattle.rules.specs.declared.kept.Begun.{Begun}
 use Rattle.rules.specs.declared.kept.Job.{Job}
@@ -147,22 +148,28 @@ abbrev pub HasShortPlan : ℕ → Option Begun → Type 0
 HasShortPlan events None = Unit {0}
 HasShortPlan events (Some b) = IsShortPlan events b.editing.attempt
 
--- an actor of a script that is served plans updates that fit into commands, has no mailbox, and has answered at most its operations
-pub record IsPlainJob (events : ℕ) (job : Job) : Type 0 where
+-- a mailbox dropped at most so many notices
+abbrev pub DropsAtMost : ℕ → Option Mailbox → Type 0
+DropsAtMost n None = Unit {0}
+DropsAtMost n (Some m) = m.dropped ≤ n
+
+-- an actor of a script that is served plans updates that fit into commands, dropped no more notices than there were publications, and has
+-- answered at most its operations
+pub record IsPlainJob (events publications : ℕ) (job : Job) : Type 0 where
   pub answered : job.answered ≤ 1000
   pub updates : HasShortPlan events job.begun
-  pub mailbox : job.mailbox ≡ None
+  pub mailbox : DropsAtMost publications job.mailbox
 
-abbrev pub ArePlainJobs : ℕ → List Job → Type 0
-ArePlainJobs events [] = Unit {0}
-ArePlainJobs events (job ∷ jobs) = IsPlainJob events job × ArePlainJobs events jobs
+abbrev pub ArePlainJobs : ℕ → ℕ → List Job → Type 0
+ArePlainJobs events publications [] = Unit {0}
+ArePlainJobs events publications (job ∷ jobs) = IsPlainJob events publications job × ArePlainJobs events publications jobs
 
 -- the number of a channel that it holds is that of a logical channel beside the basic one, ETSI TS 102 221 clause 8.7
 abbrev pub is_channel : Handle → Bool
 is_channel h = nat_le 1 h.number && nat_le h.number 19
 
 pub record IsPlain (k : Kept) : Type 0 where
-  pub jobs : ArePlainJobs k.history.events k.jobs
+  pub jobs : ArePlainJobs k.history.events k.publications k.jobs
   pub handles : list_all is_channel k.handles ≡ true
 
 abbrev pub StaysPlain : Type 0

@@ -1,6 +1,5 @@
--- The scripts that are served so far: insertions, removals and armed changes, loads, edits and looks, channels with the commands on them,
--- polls, and PIN sessions; with planned failures of calls.
-use Rattle.std.specs.Prelude.{Bool, true, false}
+-- The scripts that are served: whose names of entries are UTF-8.
+use Rattle.std.specs.Prelude.{Bool, true}
 use Rattle.std.specs.List.{list_all}
 use Rattle.std.specs.Str.{is_utf8}
 use Rattle.script_reader.specs.declared.types.Script.{Script}
@@ -22,7 +21,8 @@ is_served (operation.Verify key pin) = true
 is_served operation.Poll = true
 is_served (operation.End key) = true
 is_served operation.Look = true
-is_served op = false
+is_served (operation.Watch mask) = true
+is_served operation.Notices = true
 
 abbrev pub serves : Script → Bool
 serves s = list_all (list_all is_served) s.actors
