@@ -1,5 +1,5 @@
 -- The answer that is due: to an operation that has begun, and of few bytes.
-use Rattle.std.proofs.Common.{◌≡◌, ◌≤◌, ◌<◌, ◌∙◌, ℕ, Bool, true, false, if◌then◌else◌, Option, Some, None, is_some, option_map, refl, sym, subst, true≢false, lit≤}
+use Rattle.std.proofs.Common.{◌≡◌, ◌≤◌, ◌<◌, ◌∙◌, ℕ, Bool, true, false, if◌then◌else◌, [], Option, Some, None, is_some, option_map, refl, sym, subst, true≢false, lit≤}
 use Rattle.apdu.specs.Values.{CommandValue}
 use Rattle.apdu.specs.Words.{or_else}
 use Rattle.card_model.specs.declared.world.WorldEvent.{WorldEvent}
@@ -23,6 +23,8 @@ use Rattle.performed.proofs.CalmSends.{ServedOp, served_now}
 use Rattle.performed.proofs.TurnsSays.{says_of}
 use Rattle.rules.specs.Channels.{handle_of, is_raw_ins}
 use Rattle.rules.specs.Sessions.{has_session}
+use Rattle.rules.specs.Watching.{notices_of}
+use Rattle.watchers.specs.declared.mailbox.Mailbox.{Mailbox}
 use Rattle.adn.specs.declared.edit.PlanError.{PlanError}
 use Rattle.adn.specs.declared.edit.PlanError.TheVariants as plan_error
 use Rattle.editor.specs.declared.editing.Decided.{Decided}
@@ -157,6 +159,11 @@ module _ (came : Bool) where
   session_given true key = plain came answer.Ended (lit≤ tt) refl
   session_given false key = plain came (answer.NotHeldKey key) (lit≤ tt) refl
 
+  notices_given : (m : Option Mailbox) → Given came (Some (notices_of m))
+  unfolding Given
+  notices_given None = plain came (answer.Notices 0 (record { items = [] })) (lit≤ tt) refl
+  notices_given (Some m) = plain came (answer.Notices m.dropped m.numbers) (lit≤ tt) refl
+
   moved_given : (happened : Bool) → Given came (if happened then Some answer.Moved else None)
   unfolding Given
   moved_given true = plain came answer.Moved (lit≤ tt) refl
@@ -206,7 +213,8 @@ operation_given n k a job b (operation.End key) short v = session_given (came k)
 operation_given n k a job b operation.Look short v = plain (came k) (answer.Look (seen_now k)) (lit≤ tt) refl
 operation_given n k a job b (operation.Set f at name number) short v = edit_given (came k) b k.turn b.editing.decided (outcome_given k.turn.outcome) (λ d. short_done n b.editing d short)
 operation_given n k a job b (operation.Clear f at) short v = edit_given (came k) b k.turn b.editing.decided (outcome_given k.turn.outcome) (λ d. short_done n b.editing d short)
-operation_given n k a job b op short v = absurd (true≢false (sym v))
+operation_given n k a job b (operation.Watch mask) short v = plain (came k) answer.Watching (lit≤ tt) refl
+operation_given n k a job b operation.Notices short v = notices_given (came k) job.mailbox
 
 begun_given : (n : ℕ) (k : Kept) (a : ℕ) (b : Option Begun) (op : Option Operation) → is_short_begun n b ≡ true → ServedOp op → Given (came k) (answer_of_begun k a b op)
 unfolding Given

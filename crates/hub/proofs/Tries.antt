@@ -224,7 +224,8 @@ operation_fits s k a b (operation.End key) v h = tt
 operation_fits s k a b operation.Look v h = tt
 operation_fits s k a b (operation.Set f at name number) v h = edit_fits s k a b f (edit.Set at (record { name = name; number = number })) (lives_in k.history b.epoch)
 operation_fits s k a b (operation.Clear f at) v h = edit_fits s k a b f (edit.Clear at) (lives_in k.history b.epoch)
-operation_fits s k a b op v h = absurd (true≢false (sym v))
+operation_fits s k a b (operation.Watch mask) v h = tt
+operation_fits s k a b operation.Notices v h = tt
 
 begun_fits : (s : Script) (k : Kept) (a : ℕ) (b : Option Begun) (op : Option Operation) → ServedOp op → ((x : Operation) → op ≡ Some x → has_target (length s.cards) (length s.changes) x ≡ true) → work_fits s (decision_of_begun k a b op).work
 unfolding work_fits

@@ -19,10 +19,11 @@ use Rattle.rules.specs.After.{facts_of, is_mark, kept_after, kept_of, turn_excha
 use Rattle.families.specs.Plans.{plan_updates}
 use Rattle.adn.specs.declared.edit.RowUpdate.{RowUpdate}
 use Rattle.editor.specs.declared.editing.Attempt.{Attempt}
+use Rattle.watchers.specs.declared.mailbox.Mailbox.{Mailbox}
 use Rattle.planner.specs.Room.{attempt_fits, begun_fits as updates_fit, is_short, turn_fits, update_fits, handles_fit}
-use Rattle.tracker.specs.Room.{CountsOn, HasRoom, attempt_has_room, begun_has_room, job_has_room}
+use Rattle.tracker.specs.Room.{CountsOn, HasRoom, attempt_has_room, begun_has_room, job_has_room, mailbox_has_room}
 use Rattle.hub.specs.Short.{are_short, is_row_number, is_short_attempt, is_short_begun, is_short_job}
-use Rattle.performed.specs.Laws.{AreCounted, ArePlainJobs, IsPlain, IsPlainJob, StaysPlain, has_no_mark, is_channel}
+use Rattle.performed.specs.Laws.{AreCounted, ArePlainJobs, IsPlain, IsPlainJob, DropsAtMost, StaysPlain, has_no_mark, is_channel}
 use Rattle.performed.proofs.Counts.{counts}
 use Rattle.performed.proofs.TurnsKept.{goes_on}
 use Rattle.hub.specs.Parts.{Parts}
@@ -53,14 +54,19 @@ begun_room : (n : ℕ) (o : Option Begun) → n + 1 < 2 ^ 64 → is_short_begun 
 begun_room n None few h = refl
 begun_room n (Some b) few h = attempt_room n b.editing.attempt few (and_parts (is_short_attempt n b.editing.attempt) (list_all is_row_number b.editing.marked) h).0
 
-job_room : (n events : ℕ) (job : Job) → n + 1 < 2 ^ 64 → IsPlainJob events job → is_short_job n job ≡ true → job_has_room job ≡ true
-job_room n events job few h short = rw (answered_fits job.answered h.answered, h.mailbox, begun_room n job.begun few short) refl
+mailbox_room : (n published : ℕ) (o : Option Mailbox) → n + 1 < 2 ^ 64 → published ≤ n → DropsAtMost published o → mailbox_has_room o ≡ true
+mailbox_room n published None few most h = refl
+mailbox_room n published (Some m) few most h = lt-ltb (m.dropped + 1) (2 ^ 64) (omega (arith, most, few, h))
 
-jobs_room : (n events : ℕ) (jobs : List Job) → n + 1 < 2 ^ 64 → ArePlainJobs events jobs → are_short n jobs ≡ true → list_all job_has_room jobs ≡ true
-jobs_room n events [] few h short = refl
-jobs_room n events (job ∷ jobs) few h short =
-    let parts = and_parts (is_short_job n job) (are_short n jobs) short in
-    rw (job_room n events job few h.0 parts.0) (jobs_room n events jobs few h.1 parts.1)
+module _ (n events published : ℕ) (few : n + 1 < 2 ^ 64) (most : published ≤ n) where
+  job_room : (job : Job) → IsPlainJob events published job → is_short_job n job ≡ true → job_has_room job ≡ true
+  job_room job h short = rw (answered_fits job.answered h.answered, mailbox_room n published job.mailbox few most h.mailbox, begun_room n job.begun few short) refl
+
+  jobs_room : (jobs : List Job) → ArePlainJobs events published jobs → are_short n jobs ≡ true → list_all job_has_room jobs ≡ true
+  jobs_room [] h short = refl
+  jobs_room (job ∷ jobs) h short =
+      let parts = and_parts (is_short_job n job) (are_short n jobs) short in
+      rw (job_room job h.0 parts.0) (jobs_room jobs h.1 parts.1)
 
 attempt_updates : (n : ℕ) (a : Option Attempt) → is_short_attempt n a ≡ true → attempt_fits a ≡ true
 attempt_updates n None h = refl
@@ -103,10 +109,13 @@ module _ (law : StaysPlain) (p : Parts) (t : IsTied p) where
   plain : IsPlain p.kept
   plain = subst IsPlain (sym t.kept) (law p.script p.lines.lines t.lines.rules t.lines.served t.lines.followed)
 
+  counted : AreCounted (length p.lines.lines) p.kept
+  counted = subst (AreCounted (length p.lines.lines)) (sym t.kept) (counts p.script p.lines.lines)
+
   pub has_room : length p.lines.lines + 1 < 2 ^ 64 → HasRoom p.kept
   has_room h = record {
-    counters = counts_on (length p.lines.lines) p.kept (subst (AreCounted (length p.lines.lines)) (sym t.kept) (counts p.script p.lines.lines)) h;
-    jobs = jobs_room (length p.lines.lines) p.kept.history.events p.kept.jobs h plain.jobs t.short;
+    counters = counts_on (length p.lines.lines) p.kept counted h;
+    jobs = jobs_room (length p.lines.lines) p.kept.history.events p.kept.publications h counted.publications p.kept.jobs plain.jobs t.short;
   }
 
   pub handles_small : handles_fit p.kept.handles ≡ true

@@ -6,12 +6,12 @@ ghost use Rattle.report.specs.declared.line.Line.TheVariants as line;
 ghost use Rattle.rules.specs.Kept.{actor_count};
 ghost use Rattle.rules.specs.Work.{is_finished as is_run_finished, is_idle as is_actor_idle};
 ghost use Rattle.rules.specs.Legal.{legal};
-ghost use Rattle.performed.specs.Served.{serves};
 ghost use Rattle.performed.specs.Placed.{are_placed, is_turn_allowed};
 ghost use Rattle.hub.specs.DueSoFar.{IsDueSoFar};
 ghost use Rattle.hub.specs.Hub.{ChangesNothingOrBreaks, IsAtRest, TakesTurn, kept_now, turn_answer};
 
 use crate::engine::Engine;
+use crate::served::script_is_served;
 use crate::turn::Turn;
 use apdu::Memory;
 use card_model::ScriptedSlot;
@@ -57,7 +57,6 @@ impl<S: ScriptedSlot + Drop> Hub<S> {
     #[tactic(auto, using(crate::proofs::Scripts::few_actors))]
     pub fn new(alloc: Global, slot: S, script: Script) -> Result<Hub<S>, Memory>
         requires rules { keeps_rules script ≡ true }
-        requires served { serves script ≡ true }
         requires world { IfSome (S.Slot.world slot) (λ w. w ≡ first_world script) }
         requires plan { IfSome (S.Slot.plan slot)
             (λ p. p ≡ record { faults = script.faults; calls = 0 }) }
@@ -69,6 +68,7 @@ impl<S: ScriptedSlot + Drop> Hub<S> {
           whole = true;
         }) }
     {
+        script_is_served(&script);
         let tracker = ContentTracker::new(alloc, &script)?;
         Ok(Hub {
             engine: Engine {

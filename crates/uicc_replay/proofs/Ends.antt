@@ -10,7 +10,6 @@ use Rattle.report.specs.declared.lines.Report.{Report}
 use Rattle.rules.specs.After.{kept_of}
 use Rattle.rules.specs.Legal.{legal}
 use Rattle.rules.specs.Work.{is_finished}
-use Rattle.performed.specs.Served.{serves}
 use Rattle.performed.specs.Laws.{LinesAreLegal}
 use Rattle.performed.specs.Told.{are_told}
 use Rattle.hub.specs.Hub.{HubValue}
@@ -41,12 +40,11 @@ to_spent laws h b events u due unfinished ended is =
     let k = kept_of s h.lines in
     let spent : nat_lt k.history.events (budget_of s) ≡ false = spent_by (is_finished s k) (nat_lt k.history.events (budget_of s)) unfinished ended in
     record {
-      served = u.served;
       lines = h.lines;
       run = record {
         followed = due.followed;
         whole = due.ends;
-        legal = laws s in_replay h.lines u.rules u.served due.followed (told_of h.world (are_told s h.lines ≡ true) due.told u.told) u.placed;
+        legal = laws s in_replay h.lines u.rules due.served due.followed (told_of h.world (are_told s h.lines ≡ true) due.told u.told) u.placed;
         unfinished = unfinished;
         within = u.within;
         events = is;
@@ -54,13 +52,12 @@ to_spent laws h b events u due unfinished ended is =
       };
     }
 
-to_replay : (s : Script) (lines : List Line) (r : Report) → r.script ≡ s → r.mode ≡ in_replay → r.lines ≡ lines → legal r ≡ true → serves s ≡ true → within_budget s lines ≡ true → IsReplay r
-to_replay s lines r script mode same legal served within = record {
-  served = subst (λ (x : Script). serves x ≡ true) (sym script) served;
+to_replay : (s : Script) (lines : List Line) (r : Report) → r.script ≡ s → r.mode ≡ in_replay → r.lines ≡ lines → legal r ≡ true → within_budget s lines ≡ true → IsReplay r
+to_replay s lines r script mode same legal within = record {
   mode = mode;
   legal = legal;
   within = rw (script, same) within;
 }
 
 pub to_finished : (h : HubValue) (b : ℕ) (r : Report) → IsUnderWay h.script (run h b) → r.script ≡ h.script → r.mode ≡ in_replay → r.lines ≡ h.lines → (IsSome h.world → legal r ≡ true) → IsReplay r
-to_finished h b r u script mode same legal = to_replay h.script h.lines r script mode same (legal u.told) u.served u.within
+to_finished h b r u script mode same legal = to_replay h.script h.lines r script mode same (legal u.told) u.within

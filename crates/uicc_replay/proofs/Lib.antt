@@ -1,4 +1,3 @@
-pub mod Counting
 pub mod Marks
 pub mod Left
 pub mod Rounds

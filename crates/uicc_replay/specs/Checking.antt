@@ -1,17 +1,15 @@
 -- What is said of the bytes of a report.
 use Rattle.std.specs.Prelude.{◌≡◌, ◌+◌, ℕ, true, List, ◌++◌, length, codes, decimal, Some, Ok, Err}
-use Rattle.std.specs.List.{count_by}
 use Rattle.apdu.specs.Stream.{Rose}
 use Rattle.streams.specs.Streams.{SourceValue, StreamsValue, HasMore, IsRead, Wrote}
-use Rattle.report.specs.declared.line.Line.{Line}
 use Rattle.report.specs.declared.lines.Report.{Report}
 use Rattle.report_reader.specs.Reports.{report_of}
-use Rattle.rules.specs.History.{is_event}
+use Rattle.report_summary.specs.Summary.{summary_of}
 use Rattle.rules.specs.Legal.{legal, first_broken}
 use Rattle.uicc_replay.specs.declared.check.Verdict.{Verdict}
 use Rattle.uicc_replay.specs.declared.check.Verdict.TheVariants.{Legal, Illegal, NoReport}
 use Rattle.uicc_replay.specs.declared.top.Ending.{Ending}
-use Rattle.uicc_replay.specs.declared.top.Ending.TheVariants.{Usage, TooLong, Refused, ReadFault, Spent, Memory, Replayed, Generated, Checked}
+use Rattle.uicc_replay.specs.declared.top.Ending.TheVariants.{Usage, TooLong, Refused, ReadFault, Spent, Memory, Replayed, Generated, Checked, Counted}
 
 -- the most bytes that a report may have
 abbrev pub report_limit : ℕ
@@ -23,14 +21,11 @@ report_limit = 16777216
 abbrev pub line_count : Report → ℕ
 line_count r = length r.lines + 3
 
-abbrev pub event_count : List Line → ℕ
-event_count lines = count_by is_event lines
-
 -- a legal report has so many lines and events
 pub record IsLegal (r : Report) (lines events : ℕ) : Type 0 where
   pub legal : legal r ≡ true
   pub counted : lines ≡ line_count r
-  pub happened : events ≡ event_count r.lines
+  pub happened : events ≡ (summary_of r.lines).events
 
 -- what is said of a report
 abbrev pub IsSaid : Report → Verdict → Type 0
@@ -78,6 +73,7 @@ IsDueOfVerdict v Memory = Unit {0}
 IsDueOfVerdict v (Replayed report text) = ⊥
 IsDueOfVerdict v (Generated text) = ⊥
 IsDueOfVerdict v (Checked verdict line) = (verdict ≡ v) × (line ≡ told_of verdict)
+IsDueOfVerdict v (Counted report line) = ⊥
 
 -- the ending of the bytes of a report
 abbrev pub IsDueOfReportBytes : List ℕ → Ending → Type 0
@@ -90,6 +86,7 @@ IsDueOfReportBytes bytes Memory = Unit {0}
 IsDueOfReportBytes bytes (Replayed report text) = ⊥
 IsDueOfReportBytes bytes (Generated text) = ⊥
 IsDueOfReportBytes bytes (Checked verdict line) = IsChecked bytes verdict × (line ≡ told_of verdict)
+IsDueOfReportBytes bytes (Counted report line) = ⊥
 
 -- bytes were read of which this is said, and the line tells it
 pub record IsToldOfRead (before after : SourceValue) (v : Verdict) (line : List ℕ) : Type 0 where
@@ -109,6 +106,7 @@ IsDueOfCheck before after Memory = Unit {0}
 IsDueOfCheck before after (Replayed report text) = ⊥
 IsDueOfCheck before after (Generated text) = ⊥
 IsDueOfCheck before after (Checked verdict line) = IsToldOfRead before after verdict line
+IsDueOfCheck before after (Counted report line) = ⊥
 
 -- ---- what a call did
 

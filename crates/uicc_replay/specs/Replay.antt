@@ -9,15 +9,13 @@ use Rattle.rules.specs.Due.{due}
 use Rattle.rules.specs.Legal.{are_legal_lines, legal}
 use Rattle.rules.specs.Performed.{ends_turn}
 use Rattle.rules.specs.Work.{is_finished}
-use Rattle.performed.specs.Served.{serves}
 use Rattle.performed.specs.Followed.{are_followed}
 use Rattle.uicc_replay.specs.Budget.{budget_of, within_budget}
 use Rattle.uicc_replay.specs.declared.replay.Replayed.{Replayed}
 use Rattle.uicc_replay.specs.declared.replay.Replayed.TheVariants.{Finished, Spent}
 
--- a legal report of mode replay, of a script that is served; no turn of it began with the budget spent
+-- a legal report of mode replay; no turn of it began with the budget spent
 pub record IsReplay (r : Report) : Type 0 where
-  pub served : serves r.script ≡ true
   pub mode : r.mode ≡ Replay
   pub legal : legal r ≡ true
   pub within : within_budget r.script r.lines ≡ true
@@ -32,9 +30,8 @@ pub record IsSpentRun (s : Script) (lines : List Line) (n : ℕ) : Type 0 where
   pub events : n ≡ (kept_of s lines).history.events
   pub spent : budget_of s ≤ n
 
--- there is such a run of the script, which is served
+-- there is such a run of the script
 pub record IsSpent (s : Script) (events : ℕ) : Type 0 where
-  pub served : serves s ≡ true
   pub lines : List Line
   pub run : IsSpentRun s lines events
 

@@ -7,7 +7,6 @@ use Rattle.rules.specs.declared.kept.Kept.{Kept}
 use Rattle.rules.specs.After.{kept_of}
 use Rattle.rules.specs.Kept.{actor_count}
 use Rattle.rules.specs.Work.{is_finished, is_idle}
-use Rattle.performed.specs.Served.{serves}
 use Rattle.performed.specs.Placed.{are_placed}
 use Rattle.performed.specs.Progress.{operations_left, stale_count}
 use Rattle.performed.specs.Laws.{LeavesOpen}
@@ -18,12 +17,11 @@ use Rattle.uicc_replay.specs.declared.replay.Run.{Run}
 abbrev pub kept_in : Script → Run → Kept
 kept_in s r = kept_of s r.hub.lines
 
--- a run of a script that is served, in the order of its schedule and within its budget
+-- a run of a script, in the order of its schedule and within its budget
 pub record IsUnderWay (s : Script) (r : Run) : Type 0 where
   pub script : r.hub.script ≡ s
   pub budget : r.budget ≡ budget_of s
   pub rules : keeps_rules s ≡ true
-  pub served : serves s ≡ true
   pub whole : r.hub.whole ≡ true
   pub told : IsSome r.hub.world
   pub placed : are_placed s in_replay r.hub.lines ≡ true

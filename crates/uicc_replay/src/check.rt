@@ -1,18 +1,16 @@
 // A report is read, and checked.
-ghost use Rattle.std.specs.Prelude.{◌≡◌, ◌+◌, ◌<◌, ◌^◌, ◌++◌, true, length, codes, decimal, IfOk};
-ghost use Rattle.epoch_cache.specs.Past.{counted};
-ghost use Rattle.rules.specs.History as history;
+ghost use Rattle.std.specs.Prelude.{◌≡◌, ◌++◌, true, codes, decimal, IfOk};
 ghost use Rattle.rules.specs.Legal.{legal as is_legal};
 ghost use Rattle.script_reader.specs.Rules.{keeps_rules};
-ghost use Rattle.trace_check.specs.UpTo.{seen};
 ghost use Rattle.uicc_replay.specs.Checking as spec;
 ghost use Rattle.uicc_replay.specs.Checking.{IsChecked, IsDueOfCheck, IsDueOfVerdict, IsDueOfReportBytes, IsSaid};
 
 use crate::text::{put, put_numbered};
 use crate::top::Ending;
 use apdu::{Memory, Sink, Source, Text};
-use report::{Line, Lines, Report};
+use report::Report;
 use report_reader::{ReportError, read_report};
+use report_summary::summary_of;
 use rules::legal_or_broken;
 use std::alloc::Global;
 use streams::{Input, Streams, read_all};
@@ -52,54 +50,6 @@ fn report_limit() -> usize
 /// No memory holds so many lines.
 const MOST_LINES: usize = usize::MAX - 3;
 
-// ---- counting
-
-fn is_event(line: &Line) -> bool
-    ensures { result ≡ history.is_event line.now }
-{
-    matches!(
-        line,
-        Line::Exchange { .. }
-            | Line::Failed { .. }
-            | Line::Reset { .. }
-            | Line::ResetFailed { .. }
-            | Line::World { .. }
-    )
-}
-
-/// One more, if the line is an event.
-fn count_line(line: &Line, events: u64) -> u64
-    requires { events + 1 < 2 ^ 64 }
-    ensures { result ≡ counted (history.is_event line.now) events }
-{
-    if is_event(line) { events + 1 } else { events }
-}
-
-/// The events up to the line of this index, by those before it.
-#[tactic(auto, using(crate::proofs::Counting::line_there))]
-fn count_at(lines: &Lines, at: usize, events: u64) -> Result<u64, Memory>
-    requires within { at < length lines.now }
-    requires few { at + 3 < 2 ^ 64 }
-    requires before { events ≡ spec.event_count (seen at lines.now) }
-    ensures { IfOk result (λ events. events ≡ spec.event_count (seen (at + 1) lines.now)) }
-{
-    match lines.get(at)? {
-        Some(line) => Ok(count_line(&line, events)),
-        None => unreachable!(),
-    }
-}
-
-fn event_count(lines: &Lines) -> Result<u64, Memory>
-    requires { length lines.now + 3 < 2 ^ 64 }
-    ensures { IfOk result (λ events. events ≡ spec.event_count lines.now) }
-{
-    let mut events = 0;
-    for at in 0..lines.len() {
-        events = count_at(lines, at, events)?;
-    }
-    Ok(events)
-}
-
 // ---- what is said
 
 /// What is said of a legal report.
@@ -110,10 +60,10 @@ fn verdict_on_legal(report: &Report) -> Result<Verdict, Memory>
     if report.lines.len() > MOST_LINES {
         return Err(Memory);
     }
-    let events = event_count(&report.lines)?;
+    let summary = summary_of(&report.lines)?;
     Ok(Verdict::Legal {
         lines: report.lines.len() as u64 + 3,
-        events,
+        events: summary.events,
     })
 }
 

@@ -5,7 +5,6 @@ ghost use Rattle.script_reader.specs.Rules.{keeps_rules};
 ghost use Rattle.script_reader.specs.World.{first_world};
 ghost use Rattle.rules.specs.Kept.{actor_count};
 ghost use Rattle.rules.specs.Rules.{scheduled_actor};
-ghost use Rattle.performed.specs.Served.{serves};
 ghost use Rattle.uicc_replay.specs.Budget as spec;
 ghost use Rattle.uicc_replay.specs.Replay.{IsReplayed};
 ghost use Rattle.uicc_replay.specs.Rounds as runs;
@@ -60,8 +59,7 @@ fn slot_of(alloc: Global, script: &Script) -> Result<SimSlot, Memory>
 
 impl Run {
     fn new(alloc: Global, script: Script) -> Result<Run, Memory>
-        requires rules { keeps_rules script ≡ true }
-        requires served { serves script ≡ true }
+        requires { keeps_rules script ≡ true }
         ensures under_way { IfOk result (IsUnderWay script) }
         ensures fresh { IfOk result (λ r. (kept_in script r).marks ≡ 0) }
     {
@@ -180,8 +178,7 @@ impl Run {
 /// Runs the script over its cards: the turns of the schedule, then rounds of all actors from the
 /// framework on, until the run is finished or its budget is spent.
 pub fn replay(alloc: Global, script: Script) -> Result<Replayed, Memory>
-    requires rules { keeps_rules script ≡ true }
-    requires served { serves script ≡ true }
+    requires { keeps_rules script ≡ true }
     ensures { IfOk result (IsReplayed script) }
 {
     let mut run = Run::new(alloc, script)?;

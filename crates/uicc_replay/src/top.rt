@@ -7,11 +7,11 @@ ghost use Rattle.subcommands.specs.Subcommands.{HasSize, subcommand_of};
 ghost use Rattle.uicc_replay.specs.Checking.{HasChecked};
 ghost use Rattle.uicc_replay.specs.Top.{served, reads, line_of, is_status, script_limit, limit_of, IsDue, IsDueOfSource, IsDueOfBytes, IsDueOfScript, IsDueOfReport, IsDueOfBudget, IsDueOfLine, IsDueOfSizes, IsDone, IsRefused, IsBudgetSpent, WritesPart, Writes, Ends};
 
+use crate::bulk::ending_of_bulk;
 use crate::check::{Verdict, ending_of_check};
 use crate::replay::{Replayed, replay};
 use crate::text::{budget_text, generated_text, refused_text};
 use apdu::{Bytes, Memory, Sink, Source, Text};
-use hub::serves;
 use report::{Report, write_report};
 use script::{Script, ScriptError, read_script};
 use std::alloc::Global;
@@ -46,6 +46,8 @@ pub enum Ending {
     Generated { text: Bytes },
     /// This is said of the report; this line tells it.
     Checked { verdict: Verdict, line: Text },
+    /// The generated script was replayed; this is the report, and the line that tells how much that did.
+    Counted { report: Report, line: Text },
 }
 
 /// The most bytes that a script may have.
@@ -66,7 +68,7 @@ fn ending_of_line(line: Result<Text, Memory>) -> Ending
 }
 
 /// The ending of a run whose budget is spent by so many events.
-fn ending_of_budget(alloc: Global, events: u64) -> Ending
+pub fn ending_of_budget(alloc: Global, events: u64) -> Ending
     ensures { IsDueOfBudget events result }
 {
     match budget_text(alloc, events) {
@@ -86,14 +88,10 @@ fn ending_of_report(alloc: Global, report: Report) -> Ending
 }
 
 /// The ending of a script.
-#[tactic(auto, unfolding(crate::specs::Top::later_line))]
 fn ending_of_script(alloc: Global, script: Script) -> Ending
     requires { keeps_rules script ≡ true }
     ensures { IsDueOfScript script result }
 {
-    if !serves(&script) {
-        return ending_of_line(Text::from_str(alloc, "refused other 0 later\n"));
-    }
     match replay(alloc, script) {
         Ok(Replayed::Finished(report)) => ending_of_report(alloc, report),
         Ok(Replayed::Spent { events }) => ending_of_budget(alloc, events),
@@ -153,7 +151,8 @@ fn ending_of_command<S: Source, K: Sink>(
         Some(Subcommand::Replay) => ending_of_source(alloc, streams),
         Some(Subcommand::Check) => ending_of_check(alloc, streams),
         Some(Subcommand::Generate { seed, size }) => ending_of_sizes(alloc, seed, size),
-        Some(Subcommand::Run | Subcommand::Bulk { .. }) | None => Ending::Usage,
+        Some(Subcommand::Bulk { seed, size }) => ending_of_bulk(alloc, seed, size),
+        Some(Subcommand::Run) | None => Ending::Usage,
     }
 }
 
@@ -217,6 +216,9 @@ fn write_ending<S: Source, K: Sink>(streams: &mut Streams<S, K>, ending: Ending)
         Ending::Checked { verdict, line } => {
             write_piece(streams, verdict.status(), None, line.as_str().as_bytes())
         }
+        Ending::Counted { report, line } => {
+            write_piece(streams, 0, Some(report), line.as_str().as_bytes())
+        }
     }
 }
 
@@ -225,14 +227,15 @@ fn write_ending<S: Source, K: Sink>(streams: &mut Streams<S, K>, ending: Ending)
 /// the run, which is legal. Status 0 says so: the source's bytes are a script, the report that is handed
 /// out is of that script and of mode replay, it breaks no rule, none of its turns began once the budget
 /// was spent, and its text was written whole. Where the words are `gen`, a seed and a size, it reads
-/// nothing, and at status 0 the generated script was written whole. Where the words are the one word
-/// `check`, it reads a report to its end, and at status 0 the report is legal, and the numbers of its
-/// lines and events were written. Each other status says what stood in the way, and its line was written:
-/// bytes that are no script, a script of what is not served so far, or, for a check, bytes that are no
-/// report (3), a run that spent its budget before it was finished (6), a report that breaks a rule, at the
-/// first such line, and the lowest such rule there (7), more bytes than a script or a report may have (8),
-/// words that are no command that is served (2), a source (4) or a sink (5) that failed, or want of
-/// memory (9).
+/// nothing, and at status 0 the generated script was written whole. Where they are `bulk`, a seed and a
+/// size, it reads nothing, replays the generated script, and at status 0 hands out its report, which is
+/// legal, and wrote how many events, publications, answers and refusals that has. Where the words are the
+/// one word `check`, it reads a report to its end, and at status 0 the report is legal, and the numbers of
+/// its lines and events were written. Each other status says what stood in the way, and its line was
+/// written: bytes that are no script, or, for a check, no report (3), a run that spent its budget before it
+/// was finished (6), a report that breaks a rule, at the first such line, and the lowest such rule there
+/// (7), more bytes than a script or a report may have (8), words that are no command that is served (2), a
+/// source (4) or a sink (5) that failed, or want of memory (9).
 pub fn top<S: Source, K: Sink>(
     alloc: Global,
     words: &[String],
@@ -249,7 +252,8 @@ pub fn top<S: Source, K: Sink>(
         → IsRefused (subcommand_of words.now) streams.old streams.new }
     ensures read { result.status ≡ 4 → Rose streams.old.source.faults streams.new.source.faults }
     ensures write { result.status ≡ 5 → Rose streams.old.sink.faults streams.new.sink.faults }
-    ensures spent { result.status ≡ 6 → IsBudgetSpent streams.old streams.new }
+    ensures spent { result.status ≡ 6
+        → IsBudgetSpent (subcommand_of words.now) streams.old streams.new }
     ensures illegal { result.status ≡ 7 → HasChecked 7 streams.old streams.new }
     ensures too_long { result.status ≡ 8
         → HasMore (limit_of (subcommand_of words.now)) streams.old.source streams.new.source }

@@ -1,10 +1,9 @@
 // A hub decodes a phonebook once, however often it is edited behind its load.
 ghost use Rattle.std.specs.Prelude.{◌≡◌, true};
 ghost use Rattle.script_reader.specs.Rules.{keeps_rules};
-ghost use Rattle.performed.specs.Served.{serves};
 
 use apdu::Memory;
-use hub::{Hub, serves};
+use hub::Hub;
 use script::{Script, read_script};
 use sim_card::SimSlot;
 use std::alloc::Global;
@@ -16,8 +15,7 @@ const SCRIPT: &str =
 
 /// A hub over a simulated slot with the script's cards.
 fn hub_of(alloc: Global, script: Script) -> Result<Hub<SimSlot>, Memory>
-    requires rules { keeps_rules script ≡ true }
-    requires served { serves script ≡ true }
+    requires { keeps_rules script ≡ true }
 {
     let images = script.images(alloc)?;
     let changes = script.changes(alloc)?;
@@ -30,9 +28,6 @@ fn hub_of(alloc: Global, script: Script) -> Result<Hub<SimSlot>, Memory>
 #[test]
 fn three_edits_behind_a_load_decode_once(rt: HostRuntime) -> Result<(), Fail> {
     let script = read_script(rt.alloc(), SCRIPT.as_bytes()).map_err(|_| "a script")?;
-    if !serves(&script) {
-        return Err("a script that is served".into());
-    }
     let mut hub = hub_of(rt.alloc(), script)?;
     for turn in 0..60 {
         let actor = turn % 2;
