@@ -1,5 +1,2 @@
-pub mod Budget
 pub mod Checking
-pub mod Replay
-pub mod Rounds
 pub mod Top

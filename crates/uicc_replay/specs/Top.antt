@@ -16,7 +16,7 @@ use Rattle.report.specs.Texts.{report_text}
 use Rattle.report_summary.specs.declared.summary.Summary.{Summary}
 use Rattle.report_summary.specs.Summary.{summary_of}
 use Rattle.uicc_replay.specs.Checking.{report_limit, status_of_verdict, HasChecked, IsDueOfCheck}
-use Rattle.uicc_replay.specs.Replay.{IsReplay, IsSpent}
+use Rattle.replay.specs.Replay.{IsReplay, IsSpent}
 use Rattle.uicc_replay.specs.declared.top.Ending.{Ending}
 use Rattle.uicc_replay.specs.declared.top.Ending.TheVariants.{Usage, TooLong, Refused, ReadFault, Spent, Memory, Replayed, Generated, Checked, Counted}
 use Rattle.uicc_replay.specs.declared.top.Outcome.{Outcome}

@@ -2,13 +2,13 @@
 ghost use Rattle.std.specs.Prelude.{◌≡◌, ◌≤◌, IfOk};
 ghost use Rattle.report_summary.specs.Summary.{summary_of as summary_of_lines};
 ghost use Rattle.script_generator.specs.Generated.{generated};
-ghost use Rattle.uicc_replay.specs.Replay.{IsReplayed};
+ghost use Rattle.replay.specs.Replay.{IsReplayed};
 ghost use Rattle.uicc_replay.specs.Top.{summary_line, IsDueOfCounts, IsDueOfGenerated};
 
-use crate::replay::{Replayed, replay};
 use crate::text::{put, put_numbered};
 use crate::top::{Ending, ending_of_budget};
 use apdu::{Memory, Text};
+use replay::{Replayed, replay};
 use report::Report;
 use report_summary::{Summary, summary_of};
 use script_generator::{generate, generated_keeps};

@@ -3,7 +3,6 @@
 
 mod bulk;
 mod check;
-mod replay;
 mod text;
 mod top;
 

@@ -9,9 +9,9 @@ ghost use Rattle.uicc_replay.specs.Top.{served, reads, line_of, is_status, scrip
 
 use crate::bulk::ending_of_bulk;
 use crate::check::{Verdict, ending_of_check};
-use crate::replay::{Replayed, replay};
 use crate::text::{budget_text, generated_text, refused_text};
 use apdu::{Bytes, Memory, Sink, Source, Text};
+use replay::{Replayed, replay};
 use report::{Report, write_report};
 use script::{Script, ScriptError, read_script};
 use std::alloc::Global;

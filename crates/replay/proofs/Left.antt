@@ -14,8 +14,8 @@ use Rattle.rules.specs.Work.{is_finished, is_idle}
 use Rattle.performed.specs.Measure.{one_if}
 use Rattle.performed.specs.Progress.{operations_left, stale_count, Moves}
 use Rattle.performed.specs.Laws.{LeavesOpen, IsAwake}
-use Rattle.uicc_replay.specs.Budget.{budget_of}
-use Rattle.uicc_replay.specs.Rounds.{goes_on, work_left, AdvancesBy}
+use Rattle.replay.specs.Budget.{budget_of}
+use Rattle.replay.specs.Rounds.{goes_on, work_left, AdvancesBy}
 
 -- ---- three families
 

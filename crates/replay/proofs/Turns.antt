@@ -8,10 +8,10 @@ use Rattle.rules.specs.Rules.{scheduled_actor}
 use Rattle.rules.specs.Work.{is_idle}
 use Rattle.performed.specs.Laws.{SomebodyMoves}
 use Rattle.hub.specs.DueSoFar.{IsDueSoFar}
-use Rattle.uicc_replay.specs.Rounds.{goes_on, kept_in, IsUnderWay, AreRounds, HasTurned, HasGoneRound}
-use Rattle.uicc_replay.specs.declared.replay.Run.{Run}
-use Rattle.uicc_replay.proofs.Left.{SoFar, so_far_more, gone_round, is_unfinished}
-use Rattle.uicc_replay.proofs.Rounds.{known_in_schedule, scheduled_first, scheduled_round, round_more}
+use Rattle.replay.specs.Rounds.{goes_on, kept_in, IsUnderWay, AreRounds, HasTurned, HasGoneRound}
+use Rattle.replay.specs.declared.replay.Run.{Run}
+use Rattle.replay.proofs.Left.{SoFar, so_far_more, gone_round, is_unfinished}
+use Rattle.replay.proofs.Rounds.{known_in_schedule, scheduled_first, scheduled_round, round_more}
 
 -- ---- the schedule
 

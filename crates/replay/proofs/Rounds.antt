@@ -12,7 +12,7 @@ use Rattle.script_reader.specs.Rules.{is_turn, keeps_rules}
 use Rattle.script_reader.proofs.RulesKept.{kept_rules}
 use Rattle.rules.specs.Kept.{actor_count}
 use Rattle.rules.specs.Rules.{scheduled_actor, scheduled_or}
-use Rattle.uicc_replay.specs.Rounds.{AreRounds}
+use Rattle.replay.specs.Rounds.{AreRounds}
 
 -- ---- the schedule
 

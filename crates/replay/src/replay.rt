@@ -5,10 +5,10 @@ ghost use Rattle.script_reader.specs.Rules.{keeps_rules};
 ghost use Rattle.script_reader.specs.World.{first_world};
 ghost use Rattle.rules.specs.Kept.{actor_count};
 ghost use Rattle.rules.specs.Rules.{scheduled_actor};
-ghost use Rattle.uicc_replay.specs.Budget as spec;
-ghost use Rattle.uicc_replay.specs.Replay.{IsReplayed};
-ghost use Rattle.uicc_replay.specs.Rounds as runs;
-ghost use Rattle.uicc_replay.specs.Rounds.{IsUnderWay, HasTurned, HasGoneRound, AreRounds, BeginsRound, kept_in};
+ghost use Rattle.replay.specs.Budget as spec;
+ghost use Rattle.replay.specs.Replay.{IsReplayed};
+ghost use Rattle.replay.specs.Rounds as runs;
+ghost use Rattle.replay.specs.Rounds.{IsUnderWay, HasTurned, HasGoneRound, AreRounds, BeginsRound, kept_in};
 
 use apdu::Memory;
 use hub::{Hub, Turn};

@@ -3,9 +3,9 @@ use Rattle.std.proofs.lemmas.Result.{on_ok_weaker}
 use Rattle.rules.specs.Kept.{actor_count}
 use Rattle.rules.specs.Work.{is_finished, is_idle}
 use Rattle.hub.specs.Hub.{HubValue, kept_now}
-use Rattle.uicc_replay.proofs.Left.{is_unfinished}
-use Rattle.uicc_replay.proofs.Taken.{is_awake, is_resting, took_turn, took_mark}
-use Rattle.uicc_replay.proofs.replay.Run.take_turn.Goals as goal
+use Rattle.replay.proofs.Left.{is_unfinished}
+use Rattle.replay.proofs.Taken.{is_awake, is_resting, took_turn, took_mark}
+use Rattle.replay.proofs.replay.Run.take_turn.Goals as goal
 
 pub note_idle-requires : goal.note_idle-requires
 note_idle-requires c =

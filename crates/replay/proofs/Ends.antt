@@ -14,10 +14,10 @@ use Rattle.performed.specs.Laws.{LinesAreLegal}
 use Rattle.performed.specs.Told.{are_told}
 use Rattle.hub.specs.Hub.{HubValue}
 use Rattle.hub.specs.DueSoFar.{IsDueSoFar}
-use Rattle.uicc_replay.specs.Budget.{budget_of, within_budget}
-use Rattle.uicc_replay.specs.Replay.{IsReplay, IsSpent}
-use Rattle.uicc_replay.specs.Rounds.{goes_on, IsUnderWay}
-use Rattle.uicc_replay.proofs.Taken.{run}
+use Rattle.replay.specs.Budget.{budget_of, within_budget}
+use Rattle.replay.specs.Replay.{IsReplay, IsSpent}
+use Rattle.replay.specs.Rounds.{goes_on, IsUnderWay}
+use Rattle.replay.proofs.Taken.{run}
 
 told_of : (world : Option World) (P : Type 0) → IfSome world (λ w. P) → IsSome world → P
 told_of None P h told = absurd (cc)

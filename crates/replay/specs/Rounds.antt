@@ -10,8 +10,8 @@ use Rattle.rules.specs.Work.{is_finished, is_idle}
 use Rattle.performed.specs.Placed.{are_placed}
 use Rattle.performed.specs.Progress.{operations_left, stale_count}
 use Rattle.performed.specs.Laws.{LeavesOpen}
-use Rattle.uicc_replay.specs.Budget.{budget_of, within_budget}
-use Rattle.uicc_replay.specs.declared.replay.Run.{Run}
+use Rattle.replay.specs.Budget.{budget_of, within_budget}
+use Rattle.replay.specs.declared.replay.Run.{Run}
 
 -- what is kept of the lines so far
 abbrev pub kept_in : Script → Run → Kept

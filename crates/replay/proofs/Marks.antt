@@ -14,7 +14,7 @@ use Rattle.rules.specs.After.{is_mark, kept_of}
 use Rattle.rules.specs.Rules.{scheduled_actor}
 use Rattle.performed.specs.Laws.{has_no_mark}
 use Rattle.performed.specs.Placed.{is_placed, are_placed}
-use Rattle.uicc_replay.specs.Budget.{budget_of, begins_within, within_budget}
+use Rattle.replay.specs.Budget.{budget_of, begins_within, within_budget}
 
 -- ---- lines that are no marks
 

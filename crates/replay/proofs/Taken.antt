@@ -15,11 +15,11 @@ use Rattle.performed.specs.Progress.{Moves}
 use Rattle.hub.specs.Hub.{HubValue, TakesTurn, turn_answer, waits_or_moves}
 use Rattle.hub.specs.declared.turn.Turn.{Turn}
 use Rattle.hub.specs.declared.turn.Turn.TheVariants.{Moved, Waits, Ended}
-use Rattle.uicc_replay.specs.Budget.{within_budget}
-use Rattle.uicc_replay.specs.Rounds.{goes_on, IsUnderWay, AdvancesBy, HasTurned}
-use Rattle.uicc_replay.specs.declared.replay.Run.{Run}
-use Rattle.uicc_replay.proofs.Marks.{added_marks, added_placed, added_within, mark_placed, mark_within}
-use Rattle.uicc_replay.proofs.Left.{is_unspent, moved_less}
+use Rattle.replay.specs.Budget.{within_budget}
+use Rattle.replay.specs.Rounds.{goes_on, IsUnderWay, AdvancesBy, HasTurned}
+use Rattle.replay.specs.declared.replay.Run.{Run}
+use Rattle.replay.proofs.Marks.{added_marks, added_placed, added_within, mark_placed, mark_within}
+use Rattle.replay.proofs.Left.{is_unspent, moved_less}
 
 -- ---- what a turn answers
 
