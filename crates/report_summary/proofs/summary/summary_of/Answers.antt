@@ -1,5 +1,5 @@
 -- All lines are counted.
-use Rattle.std.proofs.Common.{length, ◌∙◌, arith}
+use Rattle.std.proofs.Common.{◌∙◌, arith}
 use Rattle.report_summary.proofs.Counted.{summary_all}
 use Rattle.report_summary.proofs.summary.summary_of.Goals as goal
 
