@@ -124,7 +124,8 @@ module _ (k : Kept) (actor : ℕ) (b : Begun) where
   operation_fits operation.Look h = tt
   operation_fits (operation.Set f at name number) h = edit_operation (Some (operation.Set f at name number)) refl tt
   operation_fits (operation.Clear f at) h = edit_operation (Some (operation.Clear f at)) refl tt
-  operation_fits op h = absurd (true≢false (sym h))
+  operation_fits (operation.Watch mask) h = tt
+  operation_fits operation.Notices h = tt
 
 begun_fits : (k : Kept) (actor : ℕ) (b : Option Begun) (op : Option Operation) → ServedOp op → WorkFits (is_living k.history) k.handles (Some actor) op (decision_of_begun k actor b op).work
 begun_fits k actor (Some b) (Some op) h = operation_fits k actor b op h
@@ -215,7 +216,8 @@ sent_by_next work (operation.End key) opened refresh f h = tt
 sent_by_next work operation.Look opened refresh f h = tt
 sent_by_next work (operation.Set g at name number) opened refresh f h = tt
 sent_by_next work (operation.Clear g at) opened refresh f h = tt
-sent_by_next work op opened refresh f h = absurd (true≢false (sym h))
+sent_by_next work (operation.Watch mask) opened refresh f h = tt
+sent_by_next work operation.Notices opened refresh f h = tt
 
 sent_next : (work : Work) (op : Option Operation) (opened : Option ℕ) (refresh : Option ProactiveValue) (f : Final) → ServedOp op → NextFits opened op work (stage_of_sent op opened refresh f)
 sent_next work None opened refresh f h = next_if opened None work (has_value asks_reset refresh) resetting over tt tt
