@@ -1,5 +1,5 @@
 -- An event that is due names one of the script's cards or changes, and is for an operation that has begun.
-use Rattle.std.proofs.Common.{◌≡◌, ◌≤◌, ◌&&◌, ◌==◌, ℕ, zero, suc, Bool, true, false, if◌then◌else◌, nat_lt, nat_le, List, [], ◌∷◌, length, slice_get, slice_set, unwrap_or, Option, Some, None, IfSome, is_some, Result, Ok, Err, option_map, refl, sym, ap, ◌∙◌, subst, true≢false, arith, eq-eqb}
+use Rattle.std.proofs.Common.{◌≡◌, ◌≤◌, ◌&&◌, ◌==◌, ℕ, zero, suc, Bool, true, false, if◌then◌else◌, nat_lt, nat_le, List, [], ◌∷◌, length, slice_get, slice_set, unwrap_or, Option, Some, None, IfSome, is_some, Result, Ok, Err, option_map, refl, sym, ap, ◌∙◌, subst, true≢false, arith}
 use Rattle.std.specs.Prelude.{option_and_then}
 use Rattle.std.specs.List.{list_all}
 use Rattle.std.proofs.lemmas.List.{length-map}
@@ -44,8 +44,8 @@ use Rattle.rules.specs.declared.kept.Work.{Work}
 use Rattle.rules.specs.declared.kept.Work.TheVariants.{Rests as rests, Refuses as refuses, Lacks as lacks, Sends as sends, Reads as reads, Writes as writes, Resets as resets, Happens as happens}
 use Rattle.rules.specs.History.{lives_in}
 use Rattle.rules.specs.Standing.{first_stale}
-use Rattle.rules.specs.Kept.{begun_of, begun_operation, first_job, operation_at, operation_now}
-use Rattle.rules.specs.After.{decision_at, decision_of_begun, facts_of, fresh_begun, job_beside, kept_after, kept_of, opened_behind, own_job, stage_after, turn_exchanged}
+use Rattle.rules.specs.Kept.{begun_of, begun_operation, operation_at, operation_now}
+use Rattle.rules.specs.After.{decision_at, decision_of_begun, facts_of, fresh_begun, kept_after, kept_of, opened_behind, stage_after, turn_exchanged}
 use Rattle.rules.specs.Due.{answer_of_refusal, due, event_by_stage, event_of, slot_answer_by, tried_event}
 use Rattle.rules.specs.Rules.{same_answer}
 use Rattle.rules.specs.State.{world_after, world_of}
@@ -72,10 +72,9 @@ use Rattle.performed.specs.Told.{is_refusal_told}
 use Rattle.performed.proofs.CalmSends.{ServedOp, served_at, served_now}
 use Rattle.performed.proofs.MeasureBegun.{begun_beside_line, begun_exchange, same_turn}
 use Rattle.performed.proofs.MeasureShape.{falls}
-use Rattle.performed.proofs.ProgressBegins.{operation_there, starts}
+use Rattle.performed.proofs.ProgressBegins.{starts}
 use Rattle.performed.proofs.ProgressMarks.{same_work, seen_of}
-use Rattle.performed.proofs.TurnsJobs.{behind_job, job_behind}
-use Rattle.performed.proofs.TurnsLoad.{has_job}
+use Rattle.performed.proofs.JobPlaces.{begun_there, job_count}
 use Rattle.performed.proofs.TurnsSays.{says_of}
 use Rattle.hub.specs.Parts.{Parts}
 use Rattle.hub.specs.Settled.{IsTied, IsWorldOf}
@@ -305,13 +304,6 @@ seen_some (Some b) p e h = refl
 over_none : {X : Type 0} (work : Work) (e : WorldEvent) → event_by_stage work over ≡ Some e → X
 over_none work e h = absurd (cc)
 
-begin_job : (s : Script) (k : Kept) (a i : ℕ) (o : Option Job) → slice_get k.jobs a ≡ o → is_some o ≡ true → is_some (begun_of a (kept_after s (line.Begin a i) k).jobs) ≡ true
-begin_job s k a i None h there = absurd (true≢false (sym there))
-begin_job s k a i (Some job) h there =
-    let at = job_behind s (line.Begin a i) k a ∙ ap (option_map (behind_job s (line.Begin a i) k a)) h in
-    ap (λ (o : Option Job). is_some (unwrap_or o first_job).begun) at
-    ∙ ap (λ (b : Bool). is_some (if b then own_job s (line.Begin a i) k (facts_of s (line.Begin a i) k) (decision_at s (line.Begin a i) k).attempt (job_beside (line.Begin a i) k.history.epoch (facts_of s (line.Begin a i) k) k.selected job) else job_beside (line.Begin a i) k.history.epoch (facts_of s (line.Begin a i) k) k.selected job).begun) (eq-eqb a a refl)
-
 line_tries : (s : Script) (earlier : List Line) (l : Line) → keeps_rules s ≡ true → serves s ≡ true → is_followed s (kept_of s earlier) l ≡ true → Tries s (kept_of s earlier) → Tries s (kept_of s (l ∷ earlier))
 line_tries s earlier (line.Turn zero) r v f t =
     let k : Kept = kept_of s earlier in
@@ -330,10 +322,9 @@ line_tries s earlier (line.Turn (suc a)) r v f t =
 line_tries s earlier (line.Begin a i) r v f t =
     let k : Kept = kept_of s earlier in
     let now = starts s k i a f in
-    let there = operation_there s k a i now in
     record {
       event = λ e h. event_fits s (decision_at s (line.Begin a i) k).work e (begun_fits s k a (Some (fresh_begun i k.history)) (operation_at s a i) (served_at s a i v) (λ x g. target_at s a i x r g)) (stage_event (decision_at s (line.Begin a i) k).work k.turn.stage e h);
-      begun = λ e h. ap (λ (o : Option ℕ). is_begun o (kept_after s (line.Begin a i) k).jobs) now.turn ∙ begin_job s k a i (slice_get k.jobs a) refl (has_job s earlier a i there);
+      begun = λ e h. ap (λ (o : Option ℕ). is_begun o (kept_after s (line.Begin a i) k).jobs) now.turn ∙ ap is_some (begun_there s k a i now (job_count s earlier));
     }
 line_tries s earlier (line.Exchange a c x) r v f t =
     let k : Kept = kept_of s earlier in

@@ -68,6 +68,7 @@ use Rattle.performed.proofs.EditsScript.{edit_is}
 use Rattle.performed.proofs.EditsState.{Edited}
 use Rattle.performed.proofs.EditsWhole.{edited_of}
 use Rattle.performed.proofs.EpochBegun.{living_unended}
+use Rattle.performed.proofs.EpochFamily.{one_pair}
 use Rattle.performed.proofs.EpochLost.{failed_edit}
 use Rattle.performed.proofs.LegalScript.{at_passes}
 
@@ -347,15 +348,12 @@ module _ (agrees : KeptAgrees) (plans : PlansForCard) (makes : PlansMakeEdits) (
 
 -- ---- the names of a served script's edits
 
-one_edit : (p q : ℕ × Edit) → Some p ≡ Some q → p ≡ q
-one_edit p q h = cc
-
 set_text : (op : Operation) (f : ℕ) (e : Edit) → is_served op ≡ true → family_edit op ≡ Some (f, e) → HasText e
 set_text (operation.Set g at name number) f e h is =
-    let same = ap (λ (p : ℕ × Edit). p.1) (one_edit (g, edit.Set at (record { name = name; number = number })) (f, e) is) in
+    let same = ap (λ (p : ℕ × Edit). p.1) (one_pair (g, edit.Set at (record { name = name; number = number })) (f, e) is) in
     subst HasText same (IsUtf8-from_is_utf8 name h)
 set_text (operation.Clear g at) f e h is =
-    let same = ap (λ (p : ℕ × Edit). p.1) (one_edit (g, edit.Clear at) (f, e) is) in
+    let same = ap (λ (p : ℕ × Edit). p.1) (one_pair (g, edit.Clear at) (f, e) is) in
     subst HasText same tt
 set_text (operation.Insert card) f e h is = absurd (cc)
 set_text operation.Out f e h is = absurd (cc)

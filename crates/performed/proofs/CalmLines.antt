@@ -37,7 +37,7 @@ use Rattle.rules.specs.Channels.{held_numbers, handle_of, is_living_handle, is_r
 use Rattle.rules.specs.Kept.{operation_at, begun_of, begun_operation, operation_now, job_of, actor_count, change_at}
 use Rattle.rules.specs.Standing.{first_stale}
 use Rattle.rules.specs.Work.{is_starting, read_stale, first_item, framework_work, reads_first, status_command, work_of_operation, if_living, living_handle, sends_raw, sends_close}
-use Rattle.rules.specs.After.{is_raw, next_or_over, stage_of_sent, stage_after, opened_behind, turn_answered, decision_of_begun, decision_at, fresh_begun, facts_of, refused_of, jobs_beside, jobs_of_actor, kept_after, kept_of, stage_of_open, job_beside, own_job, begun_exchanged, begun_with, begun_beside, edit_of}
+use Rattle.rules.specs.After.{next_or_over, stage_of_sent, stage_after, opened_behind, turn_answered, decision_of_begun, decision_at, fresh_begun, facts_of, refused_of, jobs_beside, jobs_of_actor, kept_after, kept_of, stage_of_open, job_beside, own_job, begun_exchanged, begun_with, begun_beside, edit_of}
 use Rattle.rules.specs.Due.{due}
 use Rattle.rules.specs.Rules.{is_turn_of, turn_operation, operation_in_turn}
 use Rattle.rules.specs.Performed.{is_sent}
@@ -46,7 +46,7 @@ use Rattle.performed.specs.Followed.{is_followed, are_followed}
 use Rattle.performed.proofs.ProgressBegins.{Starts, starts}
 use Rattle.performed.proofs.ProgressJobs.{changed, mapped}
 use Rattle.performed.proofs.JobPlaces.{job_count, begun_place}
-use Rattle.performed.proofs.CalmKinds.{is_calm, Calm, IsHeld, IsReader, WorkFits, SendsNext, Fits, IsOfTurn, ChainFits, Sends, IsUpdater, is_writer, TurnIs}
+use Rattle.performed.proofs.CalmKinds.{is_calm, Calm, IsHeld, IsReader, WorkFits, SendsNext, Fits, IsOfTurn, ChainFits, Sends, is_writer, TurnIs}
 use Rattle.rules.specs.declared.holdings.Handle.{Handle}
 use Rattle.rules.specs.Sessions.{verify_command}
 use Rattle.channels.specs.Channels.{open_command, close_command, select_application, on_channel, is_opening}

@@ -49,7 +49,7 @@ use Rattle.performed.proofs.EditsWork.{edit_untried}
 use Rattle.performed.proofs.EpochBegun.{living_unended}
 use Rattle.performed.proofs.EpochDecided.{IsDecided, decided_behind, begin_free}
 use Rattle.performed.proofs.EpochFamily.{turn_edits}
-use Rattle.performed.proofs.TurnsPhase.{Publishes, publishes}
+use Rattle.performed.proofs.TurnsPhase.{Publishes, publishes, some_number}
 use Rattle.performed.proofs.TurnsSays.{begins_now, says_of}
 use Rattle.performed.proofs.WantedFamilies.{exchanged_family}
 
@@ -65,9 +65,6 @@ pub record IsAwaited (s : Script) (k : Kept) (f : ℕ) : Type 0 where
   pub decided : IsDecided s k who f
   pub current : all_current k.files (family_paths f) ≡ true
   pub quiet : k.turn.actor ≡ Some who → is_some k.turn.family ≡ true → IsQuiet k
-
-some_same : (i a : ℕ) → Some i ≡ Some a → i ≡ a
-some_same i a h = cc
 
 -- ---- what its turn does
 
@@ -150,7 +147,7 @@ module _ (looks : KeptLooksBack) (s : Script) (earlier : List Line) (followed : 
   begin_awaited a n h =
       let x = begins_now s k a n h in
       stays_awaited (line.Begin a n) h (λ m given e. absurd (cc)) t.decided.lives (still_current (line.Begin a n) h refl (λ path. refl) refl)
-      (λ actor some. absurd (begin_free s k a n b h (ap (λ (j : ℕ). begun_of j k.jobs) (x.same ∙ some_same (suc x.begins.actor) t.who (sym x.begins.turn ∙ actor)) ∙ t.decided.here)))
+      (λ actor some. absurd (begin_free s k a n b h (ap (λ (j : ℕ). begun_of j k.jobs) (x.same ∙ some_number (suc x.begins.actor) t.who (sym x.begins.turn ∙ actor)) ∙ t.decided.here)))
 
   -- a command
   pub exchange_awaited : (a : ℕ) (c : CommandValue) (r : ResponseValue) → is_followed s k (line.Exchange a c r) ≡ true → moves_one (facts_of s (line.Exchange a c r) k).touch (family_paths f) ≡ false → is_unknown_write (facts_of s (line.Exchange a c r) k).touch.written ≡ false → IsAwaited s (kept_after s (line.Exchange a c r) k) f
@@ -159,9 +156,9 @@ module _ (looks : KeptLooksBack) (s : Script) (earlier : List Line) (followed : 
       let refused_now = refused_of k.selected (jobs_beside l k.history.epoch (facts_of s l k) k.selected k.jobs) (facts_of s l k).answered in
       stays_awaited l h (λ m given e. absurd (cc)) t.decided.lives (paths_stay looks s earlier l (family_paths f) refl unmoved known t.current)
       (λ actor some.
-          let turn : k.turn.actor ≡ Some t.who = sym (exchanged_actor (operation_now s a k.jobs) (job_of a (kept_after s l k).jobs) (held_numbers k.history k.handles) (facts_of s l k) refused_now k.turn (facts_of s l k).answered) ∙ actor in
-          let family : is_some k.turn.family ≡ true = ap is_some (sym (exchanged_family (operation_now s a k.jobs) (job_of a (kept_after s l k).jobs) (held_numbers k.history k.handles) (facts_of s l k) refused_now k.turn (facts_of s l k).answered refl)) ∙ some in
-          absurd (true≢false (sym (sent_of s k a c r (and_parts (is_turn_of a k.turn) (is_sent (due s k) l) h).1) ∙ ap (has_value (same_command c)) (t.quiet turn family).silent)))
+      let turn : k.turn.actor ≡ Some t.who = sym (exchanged_actor (operation_now s a k.jobs) (job_of a (kept_after s l k).jobs) (held_numbers k.history k.handles) (facts_of s l k) refused_now k.turn (facts_of s l k).answered) ∙ actor in
+      let family : is_some k.turn.family ≡ true = ap is_some (sym (exchanged_family (operation_now s a k.jobs) (job_of a (kept_after s l k).jobs) (held_numbers k.history k.handles) (facts_of s l k) refused_now k.turn (facts_of s l k).answered refl)) ∙ some in
+      absurd (true≢false (sym (sent_of s k a c r (and_parts (is_turn_of a k.turn) (is_sent (due s k) l) h).1) ∙ ap (has_value (same_command c)) (t.quiet turn family).silent)))
 
   -- an armed change
   pub arm_awaited : (a i : ℕ) → is_followed s k (line.World a (Arm i)) ≡ true → IsAwaited s (kept_after s (line.World a (Arm i)) k) f
@@ -179,7 +176,7 @@ module _ (looks : KeptLooksBack) (s : Script) (earlier : List Line) (followed : 
   refusal_awaited g n h =
       let l : Line = line.Refused g n in
       stays_awaited l h (λ m given e. absurd (cc)) t.decided.lives (still_current l h refl (λ path. refl) refl)
-      (λ actor some. absurd (who_acts s k t.who f t.decided (some_same 0 t.who (sym (actor_is k 0 (and_parts (is_turn_of 0 k.turn) (is_refusal_told g n (due s k)) h).0) ∙ actor))))
+      (λ actor some. absurd (who_acts s k t.who f t.decided (some_number 0 t.who (sym (actor_is k 0 (and_parts (is_turn_of 0 k.turn) (is_refusal_told g n (due s k)) h).0) ∙ actor))))
 
   -- another's answer
   pub answer_awaited : (a n : ℕ) (given : Answer) → is_followed s k (line.Answered a n given) ≡ true → IsAwaited s (kept_after s (line.Answered a n given) k) f
@@ -213,12 +210,12 @@ module _ (looks : KeptLooksBack) (s : Script) (earlier : List Line) (followed : 
   pub mark_awaited : (a : ℕ) → is_followed s k (line.Turn a) ≡ true → IsAwaited s (kept_after s (line.Turn a) k) f
   mark_awaited zero h =
       stays_awaited (line.Turn zero) h (λ m given e. absurd (cc)) t.decided.lives (still_current (line.Turn zero) h refl (λ path. refl) refl)
-      (λ actor some. absurd (who_acts s k t.who f t.decided (some_same 0 t.who actor)))
+      (λ actor some. absurd (who_acts s k t.who f t.decided (some_number 0 t.who actor)))
   mark_awaited (suc a) h =
       let l : Line = line.Turn (suc a) in
       stays_awaited l h (λ m given e. absurd (cc)) t.decided.lives (still_current l h refl (λ path. refl) refl)
       (λ actor some. record {
         published = refl;
         came = refl;
-        silent = ap (λ (w : Work). first_command k.selected (job_of (suc a) (kept_after s l k).jobs) w) (marked_rests a (some_same (suc a) t.who actor) some);
+        silent = ap (λ (w : Work). first_command k.selected (job_of (suc a) (kept_after s l k).jobs) w) (marked_rests a (some_number (suc a) t.who actor) some);
       })

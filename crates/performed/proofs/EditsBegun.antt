@@ -113,10 +113,15 @@ own_begun s l k i b own h = by_place (slice_get k.jobs i) refl h
 
     by_place : (o : Option Job) → slice_get k.jobs i ≡ o → (unwrap_or o first_job).begun ≡ Some b → (x : Job) × ((x.begun ≡ Some b) × (begun_of i (kept_after s l k).jobs ≡ (own_job s l k (facts_of s l k) (decision_at s l k).attempt (job_beside l k.history.epoch (facts_of s l k) k.selected x)).begun))
     by_place None e q = absurd (cc)
-    by_place (Some x) e q = (x, (q,
+    by_place (Some x) e q = (
+      x,
+      (
+        q,
         ap (λ (o : Option Job). (unwrap_or o first_job).begun) (job_behind s l k i)
-        ∙ ap (λ (o : Option Job). (unwrap_or (option_map (behind_job s l k i) o) first_job).begun) e
-        ∙ by_own (own_job s l k (facts_of s l k) (decision_at s l k).attempt (job_beside l k.history.epoch (facts_of s l k) k.selected x)) (job_beside l k.history.epoch (facts_of s l k) k.selected x) (is_own i l) own))
+            ∙ ap (λ (o : Option Job). (unwrap_or (option_map (behind_job s l k i) o) first_job).begun) e
+            ∙ by_own (own_job s l k (facts_of s l k) (decision_at s l k).attempt (job_beside l k.history.epoch (facts_of s l k) k.selected x)) (job_beside l k.history.epoch (facts_of s l k) k.selected x) (is_own i l) own,
+      ),
+    )
 
 self : (n : ℕ) → (n == n) ≡ true
 self n = eq-eqb n n refl

@@ -5,7 +5,6 @@ use Rattle.std.proofs.lemmas.Bool.{and_parts, and_from}
 use Rattle.apdu.specs.Values.{CommandValue, ResponseValue}
 use Rattle.apdu.specs.Apdu.{is_update_ins, is_success}
 use Rattle.card_model.specs.declared.world.WorldEvent.TheVariants.{Arm, Out, Insert}
-use Rattle.adn.specs.declared.edit.Edit.{Edit}
 use Rattle.script_reader.specs.declared.types.Script.{Script}
 use Rattle.script_reader.specs.Rules.{keeps_rules}
 use Rattle.report.specs.declared.line.Line.{Line}
@@ -18,14 +17,12 @@ use Rattle.epoch_cache.specs.Cache.{all_current, is_current, is_moved, is_row_up
 use Rattle.editor.specs.declared.editing.Attempt.{Attempt}
 use Rattle.editor.specs.declared.editing.Decided.{Decided}
 use Rattle.editor.specs.declared.editing.Editing.{Editing}
-use Rattle.link.specs.Commands.{is_at}
-use Rattle.editor.specs.Editing.{attempt_behind, decided_by, extended_by, moved_attempt, sent_update, updated_by, with_attempt}
-use Rattle.families.specs.Families.{family_path}
+use Rattle.editor.specs.Editing.{attempt_behind, moved_attempt, sent_update, with_attempt}
 use Rattle.rules.specs.declared.kept.Begun.{Begun}
 use Rattle.rules.specs.declared.kept.Kept.{Kept}
 use Rattle.rules.specs.History.{is_epoch_border, stops_epoch, lives_in}
 use Rattle.rules.specs.Kept.{begun_of, operation_at, operation_now}
-use Rattle.rules.specs.After.{decision_at, edit_of, editing_answered, editing_sent, facts_of, fresh_begun, is_raw_line, kept_of}
+use Rattle.rules.specs.After.{decision_at, edit_of, editing_sent, facts_of, fresh_begun, is_raw_line, kept_of}
 use Rattle.rules.specs.Laws.{KeptAgrees, KeptLooksBack, PlansForCard}
 use Rattle.rules.specs.LookingBack.{completes, was_completed}
 use Rattle.rules.specs.Rules.{has_right_response}

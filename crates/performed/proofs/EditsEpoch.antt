@@ -1,25 +1,22 @@
 -- An edit that has decided began in an epoch.
-use Rattle.std.proofs.Common.{◌≡◌, ◌⊎◌, inl, inr, ℕ, ◌+◌, Bool, true, false, if◌then◌else◌, Option, Some, None, is_some, List, [], ◌∷◌, refl, sym, ap, ◌∙◌, subst}
+use Rattle.std.proofs.Common.{◌≡◌, ◌⊎◌, ℕ, ◌+◌, Bool, true, false, if◌then◌else◌, Option, Some, None, is_some, List, [], ◌∷◌, refl, sym, ap, ◌∙◌, subst}
 use Rattle.std.proofs.lemmas.Bool.{and_parts}
 use Rattle.apdu.specs.Values.{CommandValue, ResponseValue}
 use Rattle.apdu.specs.Apdu.{is_update_ins}
-use Rattle.card_model.specs.declared.world.World.{World}
 use Rattle.script_reader.specs.declared.types.Script.{Script}
 use Rattle.script_reader.specs.Rules.{keeps_rules}
 use Rattle.report.specs.declared.line.Line.{Line}
 use Rattle.report.specs.declared.line.Line.TheVariants as line
 use Rattle.adn.specs.declared.edit.Edit.{Edit}
-use Rattle.editor.specs.declared.editing.Decided.{Decided}
 use Rattle.editor.specs.declared.editing.Editing.{Editing}
 use Rattle.editor.specs.Editing.{moved_editing, no_editing, lost_update}
-use Rattle.epoch_cache.specs.declared.past.Past.{Past}
 use Rattle.families.specs.Families.{family_path}
 use Rattle.link.specs.Commands.{is_at}
 use Rattle.rules.specs.declared.kept.Begun.{Begun}
 use Rattle.rules.specs.declared.kept.Kept.{Kept}
 use Rattle.rules.specs.History.{lives_in}
 use Rattle.rules.specs.Kept.{actor_count, begun_of, operation_at, operation_now, begun_operation}
-use Rattle.rules.specs.After.{edit_of, editing_lost, editing_sent, begun_exchanged, decision_at, facts_of, kept_after, kept_of}
+use Rattle.rules.specs.After.{edit_of, editing_lost, editing_sent, begun_exchanged, decision_at, facts_of, kept_of}
 use Rattle.rules.specs.Laws.{KeptAgrees, PlansForCard}
 use Rattle.rules.specs.Rules.{has_right_response}
 use Rattle.rules.specs.State.{world_of}
@@ -29,7 +26,7 @@ use Rattle.performed.specs.Told.{is_told, are_told}
 use Rattle.performed.proofs.CalmAnswers.{told_response}
 use Rattle.performed.proofs.CalmSends.{never}
 use Rattle.performed.proofs.EditsBegun.{near, Came, stays, marks, begins, exchanges, fails, came}
-use Rattle.performed.proofs.EditsKept.{How, still, by_raw, by_edit, how, raw_edits, own, own_actor}
+use Rattle.performed.proofs.EditsKept.{How, still, by_raw, by_edit, how, lives_some, raw_edits, own, own_actor}
 use Rattle.performed.proofs.EditsOver.{begun_same}
 use Rattle.performed.proofs.EditsState.{Edited}
 use Rattle.performed.proofs.EditsSteps.{exchanged_same}
@@ -39,10 +36,6 @@ use Rattle.performed.proofs.EpochDecided.{with_decided, sent_decided}
 
 abbrev DecidedSince : Script → Kept → Type 0
 DecidedSince s k = (i : ℕ) (b : Begun) (f : ℕ) (e : Edit) → begun_of i k.jobs ≡ Some b → edit_of (operation_at s i b.index) ≡ Some (f, e) → is_some b.editing.decided ≡ true → is_some b.epoch ≡ true
-
-lives_some : (h : Past) (o : Option ℕ) → lives_in h o ≡ true → is_some o ≡ true
-lives_some h None e = never e
-lives_some h (Some n) e = refl
 
 -- a lost answer decides nothing
 lost_decided : (o : Option (ℕ × Edit)) (selected : Option (List ℕ)) (event : ℕ) (c : CommandValue) (e : Editing) → (editing_lost o selected event c e).decided ≡ e.decided

@@ -47,7 +47,7 @@ use Rattle.performed.proofs.EditsCard.{Answered, answered_by, view_other, OnBasi
 use Rattle.performed.proofs.EditsPlan.{plan_files}
 use Rattle.performed.proofs.EditsScript.{edit_book}
 use Rattle.performed.proofs.EditsSends.{is_book, Does, writes_row, selects_file, does}
-use Rattle.performed.proofs.EditsState.{files_in, is_over, IsFresh, IsWriting, EditAt, IsActive, Edited, Leaves, edit_left, unmoved_attempt}
+use Rattle.performed.proofs.EditsState.{files_in, is_over, IsFresh, IsWriting, EditAt, IsActive, Edited, Leaves, edit_left}
 use Rattle.performed.proofs.EditsSteps.{books_apart, file_of_place, select_came_to}
 use Rattle.performed.proofs.EpochPast.{past_stays}
 use Rattle.performed.proofs.EpochLives.{lively, sent_lives}
@@ -67,7 +67,7 @@ use Rattle.performed.proofs.CalmLines.{exchanged_actor}
 use Rattle.performed.proofs.EditsSends.{no_update, names_path}
 
 -- some number
-lives_some : (h : Past) (o : Option ℕ) → lives_in h o ≡ true → is_some o ≡ true
+pub lives_some : (h : Past) (o : Option ℕ) → lives_in h o ≡ true → is_some o ≡ true
 lives_some h None q = never q
 lives_some h (Some n) q = refl
 

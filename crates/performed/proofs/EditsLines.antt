@@ -190,8 +190,8 @@ writer_by s k (Some a) e h = by_begun (begun_of a k.jobs) refl h
 pub writer_of : (s : Script) (k : Kept) → Sends s k → k.turn.work ≡ writes → k.turn.stage ≡ fresh → Writer s k
 writer_of s k t work stage =
     let fits : Fits (is_living k.history) k.handles k.turn.actor (turn_operation s k) k.turn.opened writes fresh =
-        subst (λ (x : Work). Fits (is_living k.history) k.handles k.turn.actor (turn_operation s k) k.turn.opened x fresh) work
-        (subst (λ (x : Stage). Fits (is_living k.history) k.handles k.turn.actor (turn_operation s k) k.turn.opened k.turn.work x) stage t.fits) in
+    subst (λ (x : Work). Fits (is_living k.history) k.handles k.turn.actor (turn_operation s k) k.turn.opened x fresh) work
+    (subst (λ (x : Stage). Fits (is_living k.history) k.handles k.turn.actor (turn_operation s k) k.turn.opened k.turn.work x) stage t.fits) in
     writer_by s k k.turn.actor refl fits.1
 
 -- a turn whose command follows has not sent all

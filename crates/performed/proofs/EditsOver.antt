@@ -54,15 +54,13 @@ use Rattle.performed.proofs.EditsWhole.{edited_of}
 use Rattle.performed.proofs.EpochPast.{past_dead}
 use Rattle.performed.proofs.EpochSince.{begun_past}
 use Rattle.performed.proofs.TurnsJobs.{is_own}
+use Rattle.performed.proofs.TurnsPhase.{some_number}
 use Rattle.performed.proofs.TurnsSays.{begins_now}
 use Rattle.performed.proofs.WantedFamilies.{exchanged_family}
 
 -- in the turn of an edit that publishes
 abbrev pub TurnOver : Script → Kept → Type 0
 TurnOver s k = (i : ℕ) (b : Begun) (f : ℕ) (e : Edit) → k.turn.actor ≡ Some i → is_some k.turn.family ≡ true → begun_of i k.jobs ≡ Some b → edit_of (operation_at s i b.index) ≡ Some (f, e) → lives_in k.history b.epoch ≡ true → is_edit_over b.editing ≡ true
-
-some_same : (i a : ℕ) → Some i ≡ Some a → i ≡ a
-some_same i a h = cc
 
 pub begun_same : (b c : Begun) → Some b ≡ Some c → b ≡ c
 begun_same b c h = cc
@@ -128,11 +126,11 @@ module _ (agrees : KeptAgrees) (s : Script) (rules : keeps_rules s ≡ true) (se
   w = world_of s earlier
 
   marked_over : (a : ℕ) → TurnOver s (kept_after s (line.Turn a) k)
-  marked_over zero i b f e actor some here op lives = absurd (let none : edit_of (operation_at s 0 b.index) ≡ Some (f, e) = ap (λ (n : ℕ). edit_of (operation_at s n b.index)) (some_same 0 i actor) ∙ op in cc)
+  marked_over zero i b f e actor some here op lives = absurd (let none : edit_of (operation_at s 0 b.index) ≡ Some (f, e) = ap (λ (n : ℕ). edit_of (operation_at s n b.index)) (some_number 0 i actor) ∙ op in cc)
   marked_over (suc a) i b f e actor some here op lives = by_came (came s (line.Turn (suc a)) k i b here)
     where
       is : suc a ≡ i
-      is = some_same (suc a) i actor
+      is = some_number (suc a) i actor
 
       other : (is_own i (line.Turn (suc a)) ≡ false) ⊎ ((line.Turn (suc a)) ≡ line.Turn zero) → ⊥
       other (inl z) = true≢false (sym (eq-eqb (suc a) i is) ∙ z)
@@ -160,7 +158,7 @@ module _ (agrees : KeptAgrees) (s : Script) (rules : keeps_rules s ≡ true) (se
   begun_undecided a n h i b f e actor some here op lives = by_came (came s (line.Begin a n) k i b here)
     where
       is : a ≡ i
-      is = let x = begins_now s k a n h in x.same ∙ some_same (suc x.begins.actor) i (sym x.begins.turn ∙ actor)
+      is = let x = begins_now s k a n h in x.same ∙ some_number (suc x.begins.actor) i (sym x.begins.turn ∙ actor)
 
       other : (is_own i (line.Begin a n) ≡ false) ⊎ ((line.Begin a n) ≡ line.Turn zero) → ⊥
       other (inl z) = true≢false (sym (eq-eqb a i is) ∙ z)
@@ -184,7 +182,7 @@ module _ (agrees : KeptAgrees) (s : Script) (rules : keeps_rules s ≡ true) (se
       turn = sym (exchanged_actor (operation_now s a k.jobs) (job_of a (kept_after s (line.Exchange a c r) k).jobs) (held_numbers k.history k.handles) (facts_of s (line.Exchange a c r) k) (refused_of k.selected (jobs_beside (line.Exchange a c r) k.history.epoch (facts_of s (line.Exchange a c r) k) k.selected k.jobs) (facts_of s (line.Exchange a c r) k).answered) k.turn (facts_of s (line.Exchange a c r) k).answered) ∙ actor
 
       is : a ≡ i
-      is = some_same a i (sym (actor_is k a (and_parts (is_turn_of a k.turn) (is_sent (due s k) (line.Exchange a c r)) h).0) ∙ turn)
+      is = some_number a i (sym (actor_is k a (and_parts (is_turn_of a k.turn) (is_sent (due s k) (line.Exchange a c r)) h).0) ∙ turn)
 
       family : is_some k.turn.family ≡ true
       family = ap is_some (sym (exchanged_family (operation_now s a k.jobs) (job_of a (kept_after s (line.Exchange a c r) k).jobs) (held_numbers k.history k.handles) (facts_of s (line.Exchange a c r) k) (refused_of k.selected (jobs_beside (line.Exchange a c r) k.history.epoch (facts_of s (line.Exchange a c r) k) k.selected k.jobs) (facts_of s (line.Exchange a c r) k).answered) k.turn (facts_of s (line.Exchange a c r) k).answered refl)) ∙ some
@@ -205,7 +203,7 @@ module _ (agrees : KeptAgrees) (s : Script) (rules : keeps_rules s ≡ true) (se
           by_how : How agrees s rules served earlier followed told t a c r h right → is_edit_over b.editing ≡ true
           by_how (still idle) =
               let editing : b.editing ≡ moved_editing (facts_of s (line.Exchange a c r) k).touch b0.editing =
-                  ap (λ (x : Begun). x.editing) become ∙ exchanged_same (edit_of (operation_now s a0 k.jobs)) k.selected k.chain (k.history.events + 1) c0 r0 (moved_editing (facts_of s (line.Exchange a c r) k).touch b0.editing) (ap (λ (d : CommandValue). is_update_ins d.ins) (sym same) ∙ idle) in
+              ap (λ (x : Begun). x.editing) become ∙ exchanged_same (edit_of (operation_now s a0 k.jobs)) k.selected k.chain (k.history.events + 1) c0 r0 (moved_editing (facts_of s (line.Exchange a c r) k).touch b0.editing) (ap (λ (d : CommandValue). is_update_ins d.ins) (sym same) ∙ idle) in
               ap is_edit_over editing ∙ over_moved (facts_of s (line.Exchange a c r) k).touch b0.editing was
           by_how (by_raw raw) = absurd (raw_edits (operation_now s a k.jobs) f e raw (ap edit_of (ap (λ (n : ℕ). operation_now s n k.jobs) is ∙ ap (begun_operation s i) there) ∙ edits))
           by_how (by_edit x) =

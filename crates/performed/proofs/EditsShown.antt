@@ -204,7 +204,7 @@ module _ (agrees : KeptAgrees) (looks : KeptLooksBack) (plans : PlansForCard) (s
         let here : EditTurn = record { actor = o.who; family = o.family; edit = o.edit; begun = o.begun } in
         let update : is_update_right s w k c r ≡ true = sym (ap (λ (b : Bool). elim b [ true ↦ is_update_right s w k c r | false ↦ true ]) outside) ∙ e in
         let there : is_sent_right w k here c (continued c k.chain) && is_book_right w k here c r ≡ true =
-            sym (ap (λ (t : Option EditTurn). elim t as (λ y. Bool) [ None ↦ false | Some z ↦ is_sent_right w k z c (continued c k.chain) && is_book_right w k z c r ]) (turn_edits s w k x.work o book)) ∙ update in
+        sym (ap (λ (t : Option EditTurn). elim t as (λ y. Bool) [ None ↦ false | Some z ↦ is_sent_right w k z c (continued c k.chain) && is_book_right w k z c r ]) (turn_edits s w k x.work o book)) ∙ update in
         (and_parts (is_sent_right w k here c (continued c k.chain)) (is_book_right w k here c r) there).1
 
     beside : o.write.update.file ≡ 1 → is_at k.selected (family_path whose 0) ≡ false
@@ -214,8 +214,8 @@ module _ (agrees : KeptAgrees) (looks : KeptLooksBack) (plans : PlansForCard) (s
     pub kept_shown : has_right_edit s w k l ≡ true → o.write.update.file ≡ 1 → shown_in v whose ≡ shown_in w whose
     kept_shown e ext =
         let same : book_in v whose ≡ book_in w whose =
-            book_is (book_in v whose) (book_in w whose)
-            (sym (ap (λ (b : Bool). elim (b && is_success r.sw) [ true ↦ is_book_edited w v (record { actor = o.who; family = o.family; edit = o.edit; begun = o.begun }) | false ↦ is_book_kept w v whose ]) (beside ext)) ∙ book_now e) in
+        book_is (book_in v whose) (book_in w whose)
+        (sym (ap (λ (b : Bool). elim (b && is_success r.sw) [ true ↦ is_book_edited w v (record { actor = o.who; family = o.family; edit = o.edit; begun = o.begun }) | false ↦ is_book_kept w v whose ]) (beside ext)) ∙ book_now e) in
         card_shown v (on_card w.changes card.card c).0 whose card.behind book
         ∙ ap (λ (b : List BookRow). Some (book_text b)) same
         ∙ sym (card_shown w card.card whose card.inside book)

@@ -390,8 +390,10 @@ module _ (s : Script) (w : World) (k : Kept) (work : k.turn.work ≡ writes) (t 
         (ready st (chain_is false e) (selected_then path named c x k.selected waits r (or_more (is_success r.sw) (has_more r.sw) g))))
     answered_by e false g =
         let same = turn_is false e in
-        inr (ap (λ (y : Turn). is_over y.stage) same ∙ ap is_over (stage_is final ∙ stage_by false g),
-        ap (λ (y : Turn). is_some y.outcome) same ∙ ap is_some (came_is final) ∙ refused_came final (ap is_reading_select first) g)
+        inr (
+          ap (λ (y : Turn). is_over y.stage) same ∙ ap is_over (stage_is final ∙ stage_by false g),
+          ap (λ (y : Turn). is_some y.outcome) same ∙ ap is_some (came_is final) ∙ refused_came final (ap is_reading_select first) g,
+        )
 
     pub select_came_to : SelectCame
     select_came_to = by_more more refl

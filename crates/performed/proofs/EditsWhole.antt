@@ -84,7 +84,7 @@ module _ (agrees : KeptAgrees) (plans : PlansForCard) (s : Script) (rules : keep
   begun_alone a n f d h op living j c e here other =
       let x : BeginsNow s k a n = begins_now s k a n h in
       let next : edit_of (next_operation s (suc x.begins.actor) k.jobs) ≡ Some (f, d) =
-          ap edit_of (ap (operation_at s (suc x.begins.actor)) (sym x.begins.index)) ∙ ap (λ (m : ℕ). edit_of (operation_at s m n)) (sym x.same) ∙ op in
+      ap edit_of (ap (operation_at s (suc x.begins.actor)) (sym x.begins.index)) ∙ ap (λ (m : ℕ). edit_of (operation_at s m n)) (sym x.same) ∙ op in
       seen_alone s k f (begins_alone s k f x.begins.actor d x.begins.free x.begins.waits living next) j c e here other
 
   module _ (l : Line) (h : is_followed s k l ≡ true) where
@@ -180,9 +180,9 @@ module _ (agrees : KeptAgrees) (plans : PlansForCard) (s : Script) (rules : keep
             let there_a = subst (λ (n : ℕ). begun_of n (kept_after s (line.Exchange n c r) k).jobs ≡ Some (now_of o n)) who there in
             let same : now_of o a ≡ b = by_begun (now_of o a) b (sym there_a ∙ subst (λ (n : ℕ). begun_of n new.jobs ≡ Some b) (sym mine) here) in
             let pair = by_pair (o.family, o.edit) (f, e)
-                (sym (subst (λ (n : ℕ). edit_of (operation_at s n o.begun.index) ≡ Some (o.family, o.edit)) who o.op)
-                ∙ ap (λ (x : Begun). edit_of (operation_at s a x.index)) same
-                ∙ subst (λ (n : ℕ). edit_of (operation_at s n b.index) ≡ Some (f, e)) (sym mine) op) in
+            (sym (subst (λ (n : ℕ). edit_of (operation_at s n o.begun.index) ≡ Some (o.family, o.edit)) who o.op)
+            ∙ ap (λ (x : Begun). edit_of (operation_at s a x.index)) same
+            ∙ subst (λ (n : ℕ). edit_of (operation_at s n b.index) ≡ Some (f, e)) (sym mine) op) in
             subst (λ (n : ℕ). EditAt v new n f e b.epoch b.editing) mine
             (subst (λ (p : ℕ × Edit). EditAt v new a p.0 p.1 b.epoch b.editing) pair
             (subst (λ (x : Begun). EditAt v new a o.family o.edit x.epoch x.editing) same at_a))
@@ -213,8 +213,8 @@ module _ (agrees : KeptAgrees) (plans : PlansForCard) (s : Script) (rules : keep
         still_one : is_update_ins c.ins ≡ false → EditAt v new i f e b.epoch b.editing
         still_one idle =
             let moved : b.editing ≡ moved_editing (facts_of s l k).touch b0.editing =
-                ap (λ (x : Begun). x.editing) is
-                ∙ exchanged_same (edit_of (operation_now s a2 k.jobs)) k.selected k.chain (k.history.events + 1) c2 r2 (moved_editing (facts_of s l k).touch b0.editing) (ap (λ (d : CommandValue). is_update_ins d.ins) (sym same_command) ∙ idle) in
+            ap (λ (x : Begun). x.editing) is
+            ∙ exchanged_same (edit_of (operation_now s a2 k.jobs)) k.selected k.chain (k.history.events + 1) c2 r2 (moved_editing (facts_of s l k).touch b0.editing) (ap (λ (d : CommandValue). is_update_ins d.ins) (sym same_command) ∙ idle) in
             subst (λ (x : Editing). EditAt v new i f e b.epoch x) (sym moved)
             (subst (λ (o : Option ℕ). EditAt v new i f e o (moved_editing (facts_of s l k).touch b0.editing)) (sym (ap (λ (x : Begun). x.epoch) is))
             (idle_edit agrees s rules served earlier followed told t a c r h q i b0 f e there old (sym mine) idle (t.edits i b0 f e there old)))

@@ -43,7 +43,7 @@ old_by s l k i now none (fails a c d b own e here is) = record { old = b; here =
 
 -- ---- what is published for an operation
 
-one_pair : (p q : ℕ × Edit) → Some p ≡ Some q → p ≡ q
+pub one_pair : (p q : ℕ × Edit) → Some p ≡ Some q → p ≡ q
 one_pair p q h = cc
 
 edit_family : (b : Begun) (q : Option (ℕ × Edit)) (f g : ℕ) (e : Edit) → q ≡ Some (g, e) → family_of_edit b q ≡ Some f → f ≡ g

@@ -16,7 +16,7 @@ use Rattle.rules.specs.After.{told_by, ended_by, kept_after, kept_of}
 use Rattle.rules.specs.Due.{due, due_by_end}
 use Rattle.rules.specs.Performed.{is_end_told}
 use Rattle.rules.specs.Rules.{is_turn_of, is_begun_at}
-use Rattle.performed.specs.Followed.{follows, is_followed, are_followed, is_given_or_refused}
+use Rattle.performed.specs.Followed.{follows, is_followed, are_followed}
 use Rattle.performed.specs.Laws.{tells_end}
 use Rattle.performed.proofs.CalmSends.{never}
 use Rattle.performed.proofs.EditsBegun.{Came, stays, marks, begins, exchanges, fails, came}

@@ -91,7 +91,7 @@ module _ (moves : MarksMove) (shows : ShowsCard) (looks : KeptLooksBack) (s : Sc
     end_known allowed finished =
         let done = ends_done s (kept_of s lines) e (world_of s lines) in
         pass (end_tests s m (changed_in s lines) (known s lines)) refl refl refl (others.channels lines f t e) rest_known done.0 refl
-        (turn_right moves s m lines v f e allowed) finished done.2
+        (turn_right moves s m lines rules v f t e allowed) finished done.2
 
     mark_known : (a : ℕ) → has_right_place s m (known s lines) (line.Turn a) ≡ true → all_pass (mark_tests s m (changed_in s lines) (known s lines) (line.Turn a)) ≡ true
     mark_known a place =

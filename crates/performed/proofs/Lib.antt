@@ -10,7 +10,7 @@ pub mod PlainJobs
 pub mod TurnsKept
 pub mod TurnsStale
 pub mod TurnsPhase
-pub mod TurnsLoad
+pub mod TurnsPublish
 pub mod TurnsMove
 pub mod OperationsKept
 pub mod WantedFamilies
@@ -76,6 +76,7 @@ pub mod ProgressSound
 pub mod ProgressHandles
 pub mod ProgressGoes
 pub mod ProgressEdits
+pub mod ProgressReady
 pub mod ProgressMoves
 pub mod JobPlaces
 pub mod CalmKinds

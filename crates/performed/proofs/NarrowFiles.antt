@@ -1,12 +1,12 @@
 -- Whatever a slot gives, a linear file that is current has rows of at most 255 bytes: one with longer rows is not read.
-use Rattle.std.proofs.Common.{◌≡◌, ℕ, zero, suc, ◌+◌, ◌&&◌, ◌||◌, not, Bool, true, false, if◌then◌else◌, List, [], ◌∷◌, ◌++◌, Option, Some, None, refl, sym, ap, ◌∙◌, subst, true≢false}
-use Rattle.std.specs.Prelude.{filter, map, nat_le, option_and_then, option_map, replicate, Result, Ok, Err}
+use Rattle.std.proofs.Common.{◌≡◌, ℕ, zero, suc, ◌+◌, ◌&&◌, ◌||◌, not, Bool, true, false, if◌then◌else◌, List, [], ◌∷◌, ◌++◌, Option, Some, None, refl, ◌∙◌, true≢false}
+use Rattle.std.specs.Prelude.{nat_le, option_and_then, option_map, replicate, Result, Ok, Err}
 use Rattle.std.specs.List.{list_all}
 use Rattle.std.proofs.lemmas.Bool.{and_parts, and_from}
 use Rattle.apdu.specs.Values.{CommandValue}
 use Rattle.apdu.specs.Words.{has_value, same_number}
 use Rattle.apdu.specs.Apdu.{is_success, same_command}
-use Rattle.fcp.specs.Content.{Content, is_linear, with_row}
+use Rattle.fcp.specs.Content.{Content, is_linear}
 use Rattle.fcp.specs.Control.{read_fcp}
 use Rattle.fcp.specs.declared.control.Fcp.{Fcp}
 use Rattle.fcp.specs.declared.control.FcpError.{FcpError}
@@ -24,15 +24,15 @@ use Rattle.epoch_cache.specs.declared.cached.Written.TheVariants as written
 use Rattle.epoch_cache.specs.Cache.{forgotten, is_moved, is_of, is_row_of, is_spoiled, patched, patched_file, with_completed, without_file, written_files}
 use Rattle.loader.specs.Values.{ReadingValue, is_readable, is_readable_by}
 use Rattle.loader.specs.Load.{readings_exchanged}
-use Rattle.loader.specs.Reading.{begun, begun_by, complete_one, completed_by, content_by, file_of_complete, file_read, further, is_basic_read, is_complete, is_reading_of, next_read, no_file, path_read, reading_after, reading_at, reading_of, readings_after, row_read, tells_no_file, unspoiled, with_reading, without_path, without_reading}
+use Rattle.loader.specs.Reading.{begun, begun_by, content_by, file_of_complete, file_read, further, is_basic_read, is_complete, is_reading_of, next_read, no_file, path_read, reading_after, reading_at, reading_of, row_read, tells_no_file, unspoiled, with_reading, without_path, without_reading}
 use Rattle.rules.specs.declared.kept.Facts.{Facts}
 use Rattle.rules.specs.declared.kept.Job.{Job}
 use Rattle.rules.specs.declared.kept.Kept.{Kept}
 use Rattle.rules.specs.History.{stops_epoch}
 use Rattle.rules.specs.Cache.{files_behind}
-use Rattle.rules.specs.Kept.{actor_count, change_at, first_job, job_of}
+use Rattle.rules.specs.Kept.{actor_count, first_job, job_of}
 use Rattle.rules.specs.Work.{family_read}
-use Rattle.rules.specs.After.{actor_of, completed_of, decision_at, facts_of, is_started, job_beside, jobs_beside, jobs_of_actor, own_job, readings_beside, kept_after, kept_of}
+use Rattle.rules.specs.After.{actor_of, completed_of, decision_at, facts_of, is_started, job_beside, jobs_beside, jobs_of_actor, own_job, readings_beside, kept_of}
 use Rattle.performed.proofs.Lists.{all_added, all_filtered, all_found, all_mapped}
 use Rattle.performed.proofs.ProgressJobs.{changed, mapped}
 

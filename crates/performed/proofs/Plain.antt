@@ -3,29 +3,22 @@
 use Rattle.std.proofs.Common.{◌≡◌, ℕ, zero, suc, ◌+◌, ◌≤◌, ◌<◌, ◌==◌, ◌&&◌, Bool, true, false, if◌then◌else◌, List, [], ◌∷◌, length, not, Option, Some, None, is_some, refl, sym, ap, ◌∙◌, subst, arith, true≢false}
 use Rattle.std.specs.Prelude.{nat_lt, nat_le, option_map, slice_get, unwrap_or}
 use Rattle.std.specs.List.{list_all}
-use Rattle.std.proofs.lemmas.Bool.{and_parts, eqb-true, ltb-true, leb-true}
+use Rattle.std.proofs.lemmas.Bool.{and_parts, eqb-true, ltb-true}
 use Rattle.apdu.specs.Words.{is_between, is_one_of, or_else}
-use Rattle.apdu.specs.Values.{CommandValue}
-use Rattle.apdu.specs.Apdu.{is_update_ins, is_success, wants_more, select_ins}
+use Rattle.apdu.specs.Apdu.{is_success, wants_more, select_ins}
 use Rattle.script_reader.specs.declared.types.Script.{Script}
 use Rattle.script_reader.specs.declared.types.Operation.{Operation}
 use Rattle.script_reader.specs.declared.types.Operation.TheVariants as operation
-use Rattle.script_reader.specs.Rules.{keeps_rules, cards_keep_rules, changes_keep_rules, actors_keep_rules, schedule_keeps_rules, faults_keep_rules, budget_keeps_rules}
-use Rattle.script_reader.specs.Operations.{operation_count, is_actor}
 use Rattle.report.specs.declared.answer.Answer.{Answer}
 use Rattle.report.specs.declared.answer.Answer.TheVariants as answer
 use Rattle.report.specs.declared.line.Line.{Line}
 use Rattle.report.specs.declared.line.Line.TheVariants as line
-use Rattle.link.specs.declared.chain.Chain.{Chain}
 use Rattle.link.specs.declared.chain.Final.{Final}
 use Rattle.link.specs.Commands.{is_refused}
 use Rattle.channels.specs.Channels.{is_opening, new_number, opened_number}
 use Rattle.loader.specs.Reading.{has_bad_fcp}
 use Rattle.loader.specs.declared.reading.RefusedReading.{RefusedReading}
 use Rattle.watchers.specs.declared.mailbox.Mailbox.{Mailbox}
-use Rattle.editor.specs.declared.editing.Editing.{Editing}
-use Rattle.editor.specs.Editing.{no_editing, moved_editing, sent_update, with_attempt}
-use Rattle.editor.specs.declared.editing.Attempt.{Attempt}
 use Rattle.rules.specs.declared.holdings.Handle.{Handle}
 use Rattle.rules.specs.declared.kept.Begun.{Begun}
 use Rattle.rules.specs.declared.kept.Facts.{Facts}
@@ -41,7 +34,7 @@ use Rattle.rules.specs.Kept.{actor_count, first_job, job_of, begun_of, begun_ope
 use Rattle.rules.specs.Work.{has_operations_left}
 use Rattle.rules.specs.Due.{due}
 use Rattle.rules.specs.Rules.{is_turn_of, is_begun_at}
-use Rattle.rules.specs.After.{begun_beside, begun_with, begun_exchanged, begun_failed, mailbox_behind, job_beside, jobs_beside, edit_of, editing_sent, own_job, handles_given, decision_of_begun, decision_at, fresh_begun, facts_of, refused_of, opened_behind, no_channel_left, refused_outcome, success_or_refusal, opening_outcome, selecting_outcome, outcome_of, turn_answered, turn_exchanged, kept_after, kept_of}
+use Rattle.rules.specs.After.{begun_beside, begun_with, begun_exchanged, begun_failed, mailbox_behind, job_beside, jobs_beside, edit_of, own_job, handles_given, decision_at, facts_of, refused_of, opened_behind, no_channel_left, refused_outcome, success_or_refusal, opening_outcome, selecting_outcome, outcome_of, turn_answered, turn_exchanged, kept_after, kept_of}
 use Rattle.performed.proofs.TurnsJobs.{Before, before, behind_job, first_jobs, is_own}
 use Rattle.performed.proofs.TurnsSays.{BeginsNow, begins_now}
 use Rattle.performed.proofs.Handles.{given_good, Opens, opens}

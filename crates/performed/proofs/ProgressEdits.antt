@@ -21,17 +21,16 @@ use Rattle.editor.specs.Editing.{edit_paths, next_update, owed_of, owed_update, 
 use Rattle.loader.specs.Load.{selected_first}
 use Rattle.rules.specs.declared.kept.Begun.{Begun}
 use Rattle.rules.specs.declared.kept.Decision.{Decision}
-use Rattle.rules.specs.declared.kept.Job.{Job}
 use Rattle.rules.specs.declared.kept.Kept.{Kept}
 use Rattle.rules.specs.declared.kept.Turn.{Turn}
 use Rattle.rules.specs.declared.kept.Work.{Work}
 use Rattle.rules.specs.declared.kept.Work.TheVariants.{Rests as rests, Refuses as refuses, Lacks as lacks, Reads as reads, Writes as writes}
 use Rattle.rules.specs.History.{lives_in}
-use Rattle.rules.specs.Kept.{job_of, operation_at, begun_operation}
+use Rattle.rules.specs.Kept.{job_of, begun_operation}
 use Rattle.rules.specs.Editing.{attempt_of, family_edit, first_lack}
-use Rattle.rules.specs.Work.{decides, edit_work, undecided_work, decided_work, attempts, plans, begins_plan, goes_on, reads_first, is_edit_over, family_of_operation, work_of_operation}
+use Rattle.rules.specs.Work.{decides, edit_work, undecided_work, decided_work, attempts, begins_plan, reads_first, is_edit_over, family_of_operation, work_of_operation}
 use Rattle.rules.specs.After.{edit_of}
-use Rattle.rules.specs.Due.{due, due_answer, first_command, writing_command, with_card, with_ended, is_lost, edit_answer, decided_answer, done_publication, done_in_turn, outcome_answer, planning_answer, plan_refusal}
+use Rattle.rules.specs.Due.{due, due_answer, first_command, writing_command, with_card, with_ended, is_lost, edit_answer, decided_answer, outcome_answer, planning_answer}
 use Rattle.rules.specs.Performed.{ends_turn}
 use Rattle.performed.proofs.CalmSends.{never}
 use Rattle.performed.proofs.EditsLines.{decides_edit, edit_answers}
@@ -61,12 +60,12 @@ card_ended h b other (Some e) sound dead = by_ended b.ended (is_lost b.ended b.e
     by_ended None lost h2 = never h2
     by_ended (Some n) lost h2 = refl
 
-told_done : (b : Begun) (d : Decided) (t : Turn) → is_some b.told ≡ true → is_some (decided_answer b d t) ≡ true
-told_done b d t h = by_told b.told refl h
+pub told_done : (b : Begun) (d : Decided) (t : Turn) → is_some b.told ≡ true → is_some (decided_answer b d t) ≡ true
+told_done b d t h = by_told b.told h
   where
-    by_told : (o : Option ℕ) → b.told ≡ o → is_some o ≡ true → is_some (decided_answer b d t) ≡ true
-    by_told None e q = never q
-    by_told (Some n) e q = rw e refl
+    by_told : (o : Option ℕ) → is_some o ≡ true → is_some (decided_answer (record b { told = o }) d t) ≡ true
+    by_told None q = never q
+    by_told (Some n) q = refl
 
 -- ---- commands
 

@@ -9,7 +9,10 @@ use Rattle.script_reader.specs.declared.types.Operation.{Operation}
 use Rattle.script_reader.specs.declared.types.Operation.TheVariants as operation
 use Rattle.report.specs.declared.answer.Answer.{Answer}
 use Rattle.report.specs.declared.answer.Answer.TheVariants as answer
+use Rattle.adn.specs.declared.edit.Edit.{Edit}
+use Rattle.adn.specs.declared.edit.Edit.TheVariants as edit
 use Rattle.families.specs.Families.{family_paths}
+use Rattle.editor.specs.Editing.{with_attempt}
 use Rattle.epoch_cache.specs.declared.cached.CachedFile.{CachedFile}
 use Rattle.epoch_cache.specs.Cache.{all_current, first_missing}
 use Rattle.link.specs.declared.chain.Chain.{Chain}
@@ -25,6 +28,7 @@ use Rattle.rules.specs.History.{lives_in, is_living}
 use Rattle.rules.specs.Kept.{job_of, begun_of, operation_now}
 use Rattle.rules.specs.Channels.{is_handle_of, handle_of, is_living_handle, is_raw_ins}
 use Rattle.rules.specs.Sessions.{has_session, verify_command}
+use Rattle.rules.specs.Editing.{family_edit}
 use Rattle.rules.specs.Work.{reads_first, status_command, living_handle, sends_raw, sends_close, work_of_operation, family_published}
 use Rattle.apdu.specs.Words.{or_else}
 use Rattle.rules.specs.Due.{with_card, with_ended, is_lost, loaded, outcome_answer, on_handle, raw_on_handle, first_command, first_of_turn, command_by_stage, command_by_chain, reset_by_stage, event_by_stage, event_of, is_resetting, published_by, answer_of_begun, answer_of_actor, due_of_actor, due_by_answer, due_by_publication, due_by_refusal, due_by_event, due_by_reset, due_by_command, due_by_end, due, due_command, is_reset_due, tried_event, due_publication, due_answer}

@@ -1,19 +1,23 @@
 -- While a served run is not finished, somebody's turn would move.
 use Rattle.std.proofs.Common.{◌≡◌, ◌≤◌, ℕ, zero, suc, ◌+◌, ◌&&◌, ◌||◌, not, Bool, true, false, if◌then◌else◌, length, Option, Some, None, is_some, is_none, refl, sym, ap, ◌∙◌, subst, arith, true≢false}
-use Rattle.std.proofs.lemmas.Bool.{or_parts}
+use Rattle.std.specs.Prelude.{nat_lt, slice_get, unwrap_or}
+use Rattle.std.proofs.lemmas.Bool.{or_parts, lt-ltb}
+use Rattle.apdu.specs.Words.{has_value}
 use Rattle.script_reader.specs.declared.types.Script.{Script}
 use Rattle.script_reader.specs.declared.types.Operation.{Operation}
-use Rattle.script_reader.specs.declared.types.Operation.TheVariants as operation
+use Rattle.adn.specs.declared.edit.Edit.{Edit}
+use Rattle.rules.specs.declared.kept.Begun.{Begun}
+use Rattle.rules.specs.declared.kept.Job.{Job}
 use Rattle.rules.specs.declared.kept.Kept.{Kept}
 use Rattle.rules.specs.Standing.{first_stale}
-use Rattle.rules.specs.Kept.{actor_count, begun_of, next_operation}
-use Rattle.rules.specs.Work.{is_starting, has_work_alive, has_work, has_operations_left, first_actor, all_answered, is_finished, needs_card, edited_by, next_waits_on, waits_on, is_idle}
+use Rattle.rules.specs.Kept.{actor_count, first_job, operations_of, begun_of, begun_operation, next_operation}
+use Rattle.rules.specs.Editing.{family_edit}
+use Rattle.rules.specs.Work.{is_starting, has_work_alive, has_work, has_operations_left, first_actor, all_answered, is_finished, needs_card, is_edit_of, edits_family, edited_by, next_waits_on, waits_on, is_idle}
 use Rattle.rules.specs.After.{kept_of}
-use Rattle.performed.specs.Served.{is_served, serves}
 use Rattle.performed.specs.Laws.{IsAwake, SomebodyMoves}
+use Rattle.performed.proofs.Plain.{Keeps, keeps}
 use Rattle.performed.proofs.ProgressActors.{Found, one_passes}
-use Rattle.performed.proofs.ProgressMarks.{waiting_by, waiting_of}
-use Rattle.performed.proofs.ProgressServed.{served_at}
+use Rattle.performed.proofs.ProgressMarks.{editing_by, editing_of, waiting_by, waiting_of}
 
 left_open : (a w : Bool) → a && not w ≡ false → w ≡ false → a ≡ false
 left_open true true h e = absurd (true≢false e)
@@ -35,14 +39,11 @@ none_some c h = absurd (cc)
 begun_left : (s : Script) (k : Kept) → Keeps s k → (i : ℕ) → is_some (begun_of i k.jobs) ≡ true → has_operations_left s k i ≡ true
 begun_left s k kept i h = by_job (slice_get k.jobs i) refl h
   where
-    below : (m n : ℕ) → m < n → nat_lt m n ≡ true
-    below m n l = grind (arith, l)
-
     by_job : (o : Option Job) → slice_get k.jobs i ≡ o → is_some (unwrap_or o first_job).begun ≡ true → has_operations_left s k i ≡ true
     by_job None e q = absurd (true≢false (sym q))
     by_job (Some x) e q =
         ap (λ (o : Option Job). nat_lt (unwrap_or o first_job).answered (length (operations_of s i))) e
-        ∙ below x.answered (length (operations_of s i)) ((kept.jobs i x e).left q)
+        ∙ lt-ltb x.answered (length (operations_of s i)) ((kept.jobs i x e).left q)
 
 -- the actor of an edit has begun it
 edits_begun : (s : Script) (k : Kept) (f i : ℕ) → edits_family s k f i ≡ true → is_some (begun_of i k.jobs) ≡ true

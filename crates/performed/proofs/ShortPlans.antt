@@ -1,18 +1,17 @@
 -- Whatever a slot gives, the updates that an edit has planned fit into commands, and no more of them were sent than there were events.
-use Rattle.std.proofs.Common.{◌≡◌, ◌≤◌, ℕ, zero, suc, ◌+◌, ◌-◌, ◌==◌, ◌&&◌, ◌||◌, not, Bool, true, false, if◌then◌else◌, List, [], ◌∷◌, ◌++◌, length, Option, Some, None, refl, sym, ap, ◌∙◌, subst, arith, true≢false}
-use Rattle.std.specs.Prelude.{find, nat_le, option_map, All, IfOk, Result, Ok, Err}
+use Rattle.std.proofs.Common.{◌≡◌, ◌≤◌, ℕ, suc, ◌+◌, ◌-◌, ◌==◌, ◌&&◌, ◌||◌, not, Bool, true, false, if◌then◌else◌, List, [], ◌∷◌, ◌++◌, Option, Some, None, refl, sym, ap, ◌∙◌, subst, arith, true≢false}
+use Rattle.std.specs.Prelude.{nat_le, option_map, All, IfOk, Result}
 use Rattle.std.specs.List.{list_all}
 use Rattle.std.proofs.lemmas.List.Elements.{All-head, All-tail}
-use Rattle.std.proofs.lemmas.Bool.{and_parts, and_from, le-leb, leb-true}
-use Rattle.apdu.specs.Values.{CommandValue, ResponseValue}
+use Rattle.std.proofs.lemmas.Bool.{and_from}
+use Rattle.apdu.specs.Values.{CommandValue}
 use Rattle.apdu.specs.Apdu.{is_update_ins}
-use Rattle.fcp.specs.Content.{Content, is_linear}
-use Rattle.adn.specs.declared.edit.Edit.{Edit}
+use Rattle.fcp.specs.Content.{Content}
 use Rattle.adn.specs.declared.edit.Plan.{Plan}
 use Rattle.adn.specs.declared.edit.PlanError.{PlanError}
 use Rattle.adn.specs.declared.edit.RowUpdate.{RowUpdate}
-use Rattle.families.specs.Families.{family_path, family_plan}
-use Rattle.families.specs.Plans.{plan_edit, plan_updates}
+use Rattle.families.specs.Families.{family_path}
+use Rattle.families.specs.Plans.{plan_updates}
 use Rattle.book_plans.specs.Phonebook.{Files}
 use Rattle.book_plans.specs.Law.{Fits, FitsFile, PlansFit, file_of}
 use Rattle.script_reader.specs.declared.types.Script.{Script}
@@ -26,13 +25,12 @@ use Rattle.epoch_cache.specs.Past.{counted}
 use Rattle.editor.specs.declared.editing.Attempt.{Attempt}
 use Rattle.editor.specs.declared.editing.Decided.{Decided}
 use Rattle.editor.specs.declared.editing.Editing.{Editing}
-use Rattle.editor.specs.Editing.{attempt_behind, lost_update, moved_attempt, sent_update, with_attempt}
-use Rattle.link.specs.Commands.{is_at}
+use Rattle.editor.specs.Editing.{attempt_behind, moved_attempt, sent_update, with_attempt}
 use Rattle.rules.specs.declared.kept.Begun.{Begun}
 use Rattle.rules.specs.declared.kept.Kept.{Kept}
 use Rattle.rules.specs.History.{is_event}
 use Rattle.rules.specs.Kept.{actor_count, begun_of, operation_at, operation_now}
-use Rattle.rules.specs.After.{begun_exchanged, begun_failed, begun_with, decision_at, edit_of, editing_answered, editing_lost, editing_sent, facts_of, fresh_begun, kept_after, kept_of}
+use Rattle.rules.specs.After.{decision_at, edit_of, editing_sent, facts_of, fresh_begun, kept_of}
 use Rattle.performed.specs.Laws.{IsShortPlan, is_short}
 use Rattle.performed.proofs.EditsBegun.{near, Came, stays, marks, begins, exchanges, fails, came}
 use Rattle.performed.proofs.EditsAttempt.{answered_same, lost_same}
