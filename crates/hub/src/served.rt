@@ -8,7 +8,7 @@ use apdu::Text;
 use script::{ActorSpecs, Operation, Operations, Script};
 
 /// Whether it is UTF-8, as every text is.
-#[tactic(auto, using(crate::proofs::Served::utf8_test))]
+#[tactic(auto, using(crate::proofs::Texts::utf8_test))]
 fn is_text(text: &Text) -> bool
     ensures { result ≡ is_utf8 text.now }
 {
