@@ -1,4 +1,4 @@
-pub mod Served
+pub mod Texts
 pub mod Scripts
 pub mod Ties
 pub mod Played
