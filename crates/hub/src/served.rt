@@ -5,7 +5,7 @@ ghost use Rattle.performed.specs.Served.{is_served, serves};
 
 use script::{ActorSpecs, Operation, Operations, Script};
 
-#[tactic(auto, using(crate::proofs::Served::utf8_test))]
+#[tactic(auto, using(crate::proofs::Texts::utf8_test))]
 fn is_served(operation: &Operation)
     ensures { is_served operation.now ≡ true }
 {
