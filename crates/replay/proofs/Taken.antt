@@ -17,7 +17,7 @@ use Rattle.hub.specs.declared.turn.Turn.{Turn}
 use Rattle.hub.specs.declared.turn.Turn.TheVariants.{Moved, Waits, Ended}
 use Rattle.replay.specs.Budget.{within_budget}
 use Rattle.replay.specs.Rounds.{goes_on, IsUnderWay, AdvancesBy, HasTurned}
-use Rattle.replay.specs.declared.replay.Run.{Run}
+use Rattle.replay.specs.declared.run.Run.{Run}
 use Rattle.replay.proofs.Marks.{added_marks, added_placed, added_within, mark_placed, mark_within}
 use Rattle.replay.proofs.Left.{is_unspent, moved_less}
 

@@ -9,7 +9,7 @@ use Rattle.rules.specs.Work.{is_idle}
 use Rattle.performed.specs.Laws.{SomebodyMoves}
 use Rattle.hub.specs.DueSoFar.{IsDueSoFar}
 use Rattle.replay.specs.Rounds.{goes_on, kept_in, IsUnderWay, AreRounds, HasTurned, HasGoneRound}
-use Rattle.replay.specs.declared.replay.Run.{Run}
+use Rattle.replay.specs.declared.run.Run.{Run}
 use Rattle.replay.proofs.Left.{SoFar, so_far_more, gone_round, is_unfinished}
 use Rattle.replay.proofs.Rounds.{known_in_schedule, scheduled_first, scheduled_round, round_more}
 

@@ -11,8 +11,8 @@ use Rattle.rules.specs.Performed.{ends_turn}
 use Rattle.rules.specs.Work.{is_finished}
 use Rattle.performed.specs.Followed.{are_followed}
 use Rattle.replay.specs.Budget.{budget_of, within_budget}
-use Rattle.replay.specs.declared.replay.Replayed.{Replayed}
-use Rattle.replay.specs.declared.replay.Replayed.TheVariants.{Finished, Spent}
+use Rattle.replay.specs.declared.run.Replayed.{Replayed}
+use Rattle.replay.specs.declared.run.Replayed.TheVariants.{Finished, Spent}
 
 -- a legal report of mode replay; no turn of it began with the budget spent
 pub record IsReplay (r : Report) : Type 0 where

@@ -11,7 +11,7 @@ use Rattle.performed.specs.Placed.{are_placed}
 use Rattle.performed.specs.Progress.{operations_left, stale_count}
 use Rattle.performed.specs.Laws.{LeavesOpen}
 use Rattle.replay.specs.Budget.{budget_of, within_budget}
-use Rattle.replay.specs.declared.replay.Run.{Run}
+use Rattle.replay.specs.declared.run.Run.{Run}
 
 -- what is kept of the lines so far
 abbrev pub kept_in : Script → Run → Kept

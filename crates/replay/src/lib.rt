@@ -1,6 +1,6 @@
 //! The replay of a script over its cards: turns in the order of its schedule, and then round, within its budget.
 #![tactic(auto)]
 
-mod replay;
+mod run;
 
-pub use replay::{Replayed, replay};
+pub use run::{Replayed, replay};

@@ -1,7 +1,7 @@
 use Rattle.std.proofs.Common.{length, ap, ◌∙◌, arith}
 use Rattle.script_reader.specs.declared.types.Script.{Script}
 use Rattle.replay.proofs.Turns.{schedule_known, schedule_next}
-use Rattle.replay.proofs.replay.Run.by_schedule.Goals as goal
+use Rattle.replay.proofs.run.Run.by_schedule.Goals as goal
 
 pub take_turn-requires-clause-known : goal.take_turn-requires-clause-known
 take_turn-requires-clause-known c =

@@ -1,6 +1,6 @@
 use Rattle.std.proofs.Common.{◌≡◌}
 use Rattle.replay.specs.Rounds.{IsUnderWay, kept_in}
-use Rattle.replay.proofs.replay.Run.by_schedule.Given as goal
+use Rattle.replay.proofs.run.Run.by_schedule.Given as goal
 
 abbrev pub invariant-loop-at : goal.invariant-loop-at
 invariant-loop-at l = record {

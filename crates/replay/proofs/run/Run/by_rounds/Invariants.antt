@@ -1,5 +1,5 @@
 use Rattle.replay.specs.Rounds.{IsUnderWay, BeginsRound, kept_in, work_left}
-use Rattle.replay.proofs.replay.Run.by_rounds.Given as goal
+use Rattle.replay.proofs.run.Run.by_rounds.Given as goal
 
 abbrev pub invariant-rounds : goal.invariant-rounds
 invariant-rounds l = record {

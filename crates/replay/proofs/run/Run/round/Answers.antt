@@ -2,7 +2,7 @@ use Rattle.std.proofs.Common.{◌≡◌, arith}
 use Rattle.rules.specs.Kept.{actor_count}
 use Rattle.replay.specs.Rounds.{kept_in}
 use Rattle.replay.proofs.Turns.{round_next, turned_in_round, round_gone}
-use Rattle.replay.proofs.replay.Run.round.Goals as goal
+use Rattle.replay.proofs.run.Run.round.Goals as goal
 
 pub take_turn-requires-clause-scheduled : goal.take_turn-requires-clause-scheduled
 take_turn-requires-clause-scheduled c =

@@ -1,6 +1,6 @@
 use Rattle.std.proofs.Common.{sym, ◌∙◌}
 use Rattle.replay.proofs.Ends.{still_pending, to_spent, to_finished}
-use Rattle.replay.proofs.replay.Run.end.Goals as goal
+use Rattle.replay.proofs.run.Run.end.Goals as goal
 
 pub returns-then-pending : goal.returns-then-pending
 returns-then-pending c =

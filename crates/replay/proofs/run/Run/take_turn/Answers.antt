@@ -5,7 +5,7 @@ use Rattle.rules.specs.Work.{is_finished, is_idle}
 use Rattle.hub.specs.Hub.{HubValue, kept_now}
 use Rattle.replay.proofs.Left.{is_unfinished}
 use Rattle.replay.proofs.Taken.{is_awake, is_resting, took_turn, took_mark}
-use Rattle.replay.proofs.replay.Run.take_turn.Goals as goal
+use Rattle.replay.proofs.run.Run.take_turn.Goals as goal
 
 pub note_idle-requires : goal.note_idle-requires
 note_idle-requires c =
