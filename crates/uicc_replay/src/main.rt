@@ -1,8 +1,7 @@
-//! Replays a script of a card and its users through the framework, and writes the report; and checks reports.
+//! Replays a script of a card and its users through the framework, and writes the report.
 #![tactic(auto)]
 
 mod bulk;
-mod check;
 mod text;
 mod top;
 
