@@ -10,16 +10,16 @@ returns c =
     c.from_string.ensures
     ∙ c.in_ok-put.ensures
     ∙ ap (λ x. x ++ codes "\n") (
-      c.in_ok-put_numbered-4.ensures
-      ∙ ap (λ x. x ++ (codes " refusals " ++ decimal s.refusals)) (
-        c.in_ok-put_numbered-3.ensures
-        ∙ ap (λ x. x ++ (codes " answers " ++ decimal s.answers)) (
-          c.in_ok-put_numbered-2.ensures
-          ∙ ap (λ x. x ++ (codes " publications " ++ decimal s.publications)) (
-            c.in_ok-put_numbered.ensures
-            ∙ ap (λ x. x ++ (codes "events " ++ decimal s.events)) c.new-out.ensures.bytes
-          )
-        )
-      )
+    c.in_ok-put_numbered-4.ensures
+    ∙ ap (λ x. x ++ (codes " refusals " ++ decimal s.refusals)) (
+    c.in_ok-put_numbered-3.ensures
+    ∙ ap (λ x. x ++ (codes " answers " ++ decimal s.answers)) (
+    c.in_ok-put_numbered-2.ensures
+    ∙ ap (λ x. x ++ (codes " publications " ++ decimal s.publications)) (
+    c.in_ok-put_numbered.ensures
+    ∙ ap (λ x. x ++ (codes "events " ++ decimal s.events)) c.new-out.ensures.bytes
+    )
+    )
+    )
     )
     ∙ eight_words (codes "events ") (decimal s.events) (codes " publications ") (decimal s.publications) (codes " answers ") (decimal s.answers) (codes " refusals ") (decimal s.refusals) (codes "\n")
