@@ -1,5 +1,5 @@
 -- Calls of a slot of which none is planned to fail.
-use Rattle.std.proofs.Common.{◌≡◌, ◌||◌, ◌&&◌, ℕ, Bool, true, false, Option, Some, None, List, [], Result, Ok, Err, refl, ap, sym, subst, ◌∙◌}
+use Rattle.std.proofs.Common.{◌≡◌, ◌||◌, ◌&&◌, ℕ, Bool, true, false, Option, Some, None, [], Result, Ok, Err, refl, ap, sym, subst, ◌∙◌}
 use Rattle.std.specs.Prelude.{is_some, is_none, is_err, slice_get, option_and_then, OnOk}
 use Rattle.apdu.specs.Values.{CommandValue, ResponseValue}
 use Rattle.card_model.specs.declared.slot.SlotFault.{SlotFault}
@@ -7,7 +7,7 @@ use Rattle.card_model.specs.declared.slot.WorldRefusal.{WorldRefusal}
 use Rattle.card_model.specs.declared.world.CardState.{CardState}
 use Rattle.card_model.specs.declared.world.World.{World}
 use Rattle.card_model.specs.declared.world.WorldEvent.{WorldEvent}
-use Rattle.card_model.specs.Slot.{Plan, fault_at, next_fault, one_more, fails_at, PlannedExchange, ResetsAt, PlannedReset, IsResultOf}
+use Rattle.card_model.specs.Slot.{Plan, fault_at, next_fault, one_more, PlannedExchange, ResetsAt, PlannedReset, IsResultOf}
 use Rattle.card_model.specs.Step.{card_inside, step, inserted, reset_in, after_reset, after_event}
 use Rattle.apdu.specs.Apdu.{same_response}
 use Rattle.rules.specs.Rules.{is_response_right}

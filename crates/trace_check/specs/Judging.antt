@@ -1,5 +1,5 @@
 -- What stands behind the lines so far, the tests by it, and how a line changes it.
-use Rattle.std.specs.Prelude.{◌≡◌, ℕ, ◌+◌, Bool, true, false, if◌then◌else◌, List, [], ◌∷◌, ◌++◌, length, reverse, slice_get, unwrap_or, Option, Some, None, ◌==◌, ◌-◌, ◌&&◌, is_some}
+use Rattle.std.specs.Prelude.{◌≡◌, ℕ, ◌+◌, Bool, true, false, if◌then◌else◌, List, [], ◌∷◌, ◌++◌, length, reverse, slice_get, unwrap_or, Option, ◌==◌, ◌-◌, ◌&&◌, is_some}
 use Rattle.card_model.specs.declared.world.World.{World}
 use Rattle.card_model.specs.Slot.{refusal_of}
 use Rattle.script_reader.specs.declared.types.Script.{Script}

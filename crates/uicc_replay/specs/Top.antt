@@ -271,21 +271,21 @@ IsDueOfCounts r (Checked verdict line) = ⊥
 IsDueOfCounts r (Counted report line) = (report ≡ r) × (line ≡ summary_line (summary_of report.lines))
 
 -- the ending of the replay of a generated script
-abbrev pub IsDueOfGenerated : Script → Ending → Type 0
-IsDueOfGenerated s Usage = ⊥
-IsDueOfGenerated s TooLong = ⊥
-IsDueOfGenerated s (Refused line) = ⊥
-IsDueOfGenerated s ReadFault = ⊥
-IsDueOfGenerated s (Spent line) = TellsSpent s line
-IsDueOfGenerated s Memory = Unit {0}
-IsDueOfGenerated s (Replayed report text) = ⊥
-IsDueOfGenerated s (Generated text) = ⊥
-IsDueOfGenerated s (Checked verdict line) = ⊥
-IsDueOfGenerated s (Counted report line) = (report.script ≡ s) × IsReplay report × (line ≡ summary_line (summary_of report.lines))
+abbrev pub IsDueOfGenerated : ℕ → ℕ → Ending → Type 0
+IsDueOfGenerated seed size Usage = ⊥
+IsDueOfGenerated seed size TooLong = ⊥
+IsDueOfGenerated seed size (Refused line) = ⊥
+IsDueOfGenerated seed size ReadFault = ⊥
+IsDueOfGenerated seed size (Spent line) = TellsSpent (generated seed size) line
+IsDueOfGenerated seed size Memory = Unit {0}
+IsDueOfGenerated seed size (Replayed report text) = ⊥
+IsDueOfGenerated seed size (Generated text) = ⊥
+IsDueOfGenerated seed size (Checked verdict line) = ⊥
+IsDueOfGenerated seed size (Counted report line) = (report.script ≡ generated seed size) × IsReplay report × (line ≡ summary_line (summary_of report.lines))
 
 -- a generated script is replayed, and nothing is read
 pub record IsCounted (seed size : ℕ) (before after : SourceValue) (e : Ending) : Type 0 where
-  pub due : IsDueOfGenerated (generated seed size) e
+  pub due : IsDueOfGenerated seed size e
   pub unread : after ≡ before
 
 -- a script is generated, and nothing is read

@@ -59,7 +59,7 @@ fn replay_of(alloc: Global, seed: u32, size: u16) -> Result<Replayed, Memory>
 pub fn ending_of_bulk(alloc: Global, seed: u32, size: u16) -> Ending
     requires some { 1 ≤ size }
     requires few { size ≤ 250 }
-    ensures { IsDueOfGenerated (generated seed size) result }
+    ensures { IsDueOfGenerated seed size result }
 {
     match replay_of(alloc, seed, size) {
         Ok(Replayed::Finished(report)) => ending_of_counts(alloc, report),

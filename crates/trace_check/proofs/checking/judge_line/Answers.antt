@@ -1,7 +1,6 @@
 -- What is said of a line is said of the report.
-use Rattle.std.proofs.Common.{◌≡◌, None, Ok, ap, subst, sym, ◌∙◌}
+use Rattle.std.proofs.Common.{◌≡◌, Ok, ap, subst, ◌∙◌}
 use Rattle.script_reader.specs.declared.types.Script.{Script}
-use Rattle.script_reader.specs.Rules.{keeps_rules}
 use Rattle.report.specs.declared.line.Mode.{Mode}
 use Rattle.rules.specs.Legal.{lowest_broken}
 use Rattle.trace_check.specs.Judging.{tests_now, Follows}
