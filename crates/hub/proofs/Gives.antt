@@ -18,7 +18,7 @@ use Rattle.rules.specs.declared.kept.Outcome.{Outcome}
 use Rattle.rules.specs.declared.kept.Outcome.TheVariants as outcome
 use Rattle.rules.specs.Kept.{begun_of, job_of, operation_now}
 use Rattle.rules.specs.Due.{done_publication, edit_answer, plan_refusal, planning_answer, answer_of, answer_of_outcome, is_lost, answer_of_actor, answer_of_begun, due, due_answer, due_by_command, due_by_end, due_by_event, due_by_reset, due_command, is_reset_due, loaded, on_handle, outcome_answer, raw_on_handle, seen_now, tried_event, with_card, with_ended}
-use Rattle.performed.specs.Served.{is_served, serves}
+use Rattle.performed.specs.Names.{has_utf8_name, has_utf8_names}
 use Rattle.performed.proofs.CalmSends.{ServedOp, served_now}
 use Rattle.performed.proofs.TurnsSays.{says_of}
 use Rattle.rules.specs.Channels.{handle_of, is_raw_ins}
@@ -198,7 +198,7 @@ module _ (came : Bool) where
 came : Kept → Bool
 came k = is_some k.turn.outcome
 
-operation_given : (n : ℕ) (k : Kept) (a : ℕ) (job : Job) (b : Begun) (op : Operation) → is_short_editing n b.editing ≡ true → is_served op ≡ true → Given (came k) (answer_of k a job b op)
+operation_given : (n : ℕ) (k : Kept) (a : ℕ) (job : Job) (b : Begun) (op : Operation) → is_short_editing n b.editing ≡ true → has_utf8_name op ≡ true → Given (came k) (answer_of k a job b op)
 unfolding Given came
 operation_given n k a job b (operation.Insert card) short v = moved_given (came k) k.turn.happened
 operation_given n k a job b operation.Out short v = moved_given (came k) k.turn.happened
@@ -222,19 +222,19 @@ begun_given n k a (Some b) (Some op) short v = operation_given n k a (job_of a k
 begun_given n k a (Some b) None short v = tt
 begun_given n k a None op short v = tt
 
-actor_given : (n : ℕ) (s : Script) (k : Kept) (o : Option ℕ) → are_short n k.jobs ≡ true → serves s ≡ true → Given (came k) (answer_of_actor s k o)
+actor_given : (n : ℕ) (s : Script) (k : Kept) (o : Option ℕ) → are_short n k.jobs ≡ true → has_utf8_names s ≡ true → Given (came k) (answer_of_actor s k o)
 unfolding Given
 actor_given n s k None short v = tt
 actor_given n s k (Some a) short v = begun_given n k a (begun_of a k.jobs) (operation_now s a k.jobs) (begun_short_at n k.jobs a short) (served_now s a k.jobs v)
 
-due_given : (n : ℕ) (s : Script) (k : Kept) (x : Answer) → are_short n k.jobs ≡ true → serves s ≡ true → due s k ≡ give x → IsGiven (came k) x
+due_given : (n : ℕ) (s : Script) (k : Kept) (x : Answer) → are_short n k.jobs ≡ true → has_utf8_names s ≡ true → due s k ≡ give x → IsGiven (came k) x
 unfolding Given
 due_given n s k x short v h = let given : due_answer s k ≡ Some x = says_of s k (give x) h in subst (Given (came k)) given (actor_given n s k k.turn.actor short v)
 
-pub gives_short : (n : ℕ) (s : Script) (k : Kept) (x : Answer) → are_short n k.jobs ≡ true → serves s ≡ true → due s k ≡ give x → most_of_answer x ≤ 608
+pub gives_short : (n : ℕ) (s : Script) (k : Kept) (x : Answer) → are_short n k.jobs ≡ true → has_utf8_names s ≡ true → due s k ≡ give x → most_of_answer x ≤ 608
 gives_short n s k x short v h = (due_given n s k x short v h).short
 
 -- behind an event of the turn, where it gives a channel or a session
-pub gives_behind : (n : ℕ) (s : Script) (k : Kept) (x : Answer) (events : ℕ) → are_short n k.jobs ≡ true → serves s ≡ true → due s k ≡ give x → IsSince events k → is_holding x ≡ true → events < k.history.events
+pub gives_behind : (n : ℕ) (s : Script) (k : Kept) (x : Answer) (events : ℕ) → are_short n k.jobs ≡ true → has_utf8_names s ≡ true → due s k ≡ give x → IsSince events k → is_holding x ≡ true → events < k.history.events
 unfolding came
 gives_behind n s k x events short v h t holds = t.came ((due_given n s k x short v h).holds holds)

@@ -18,7 +18,7 @@ use Rattle.rules.specs.State.{world_of}
 use Rattle.rules.specs.Performed.{ends_turn}
 use Rattle.planner.specs.Room.{AreLeft, handles_fit, is_decided, turn_fits}
 use Rattle.tracker.specs.Room.{HasRoom}
-use Rattle.performed.specs.Served.{serves}
+use Rattle.performed.specs.Names.{has_utf8_names}
 use Rattle.performed.specs.Followed.{are_followed}
 use Rattle.performed.specs.Told.{are_told}
 use Rattle.performed.specs.Laws.{has_no_mark}
@@ -40,10 +40,10 @@ pub record IsPlanOf (s : Script) (k : Kept) (p : Plan) : Type 0 where
   pub faults : p.faults ≡ s.faults
   pub calls : p.calls ≡ k.history.calls
 
--- the lines of a script that is served: each was due, and where the slot tells its world and its plan, they are those of the lines
+-- the lines of a script: each was due, and where the slot tells its world and its plan, they are those of the lines
 pub record AreServed (s : Script) (lines : List Line) (w : Option World) (p : Option Plan) : Type 0 where
   pub rules : keeps_rules s ≡ true
-  pub served : serves s ≡ true
+  pub served : has_utf8_names s ≡ true
   pub followed : are_followed s lines ≡ true
   pub world : IfSome w (IsWorldOf s lines)
   pub plan : IfSome p (IsPlanOf s (kept_of s lines))

@@ -11,7 +11,7 @@ ghost use Rattle.hub.specs.DueSoFar.{IsDueSoFar};
 ghost use Rattle.hub.specs.Hub.{ChangesNothingOrBreaks, IsAtRest, TakesTurn, kept_now, turn_answer};
 
 use crate::engine::Engine;
-use crate::served::script_is_served;
+use crate::names::script_names_are_utf8;
 use crate::turn::Turn;
 use apdu::Memory;
 use card_model::ScriptedSlot;
@@ -68,7 +68,7 @@ impl<S: ScriptedSlot + Drop> Hub<S> {
           whole = true;
         }) }
     {
-        script_is_served(&script);
+        script_names_are_utf8(&script);
         let tracker = ContentTracker::new(alloc, &script)?;
         Ok(Hub {
             engine: Engine {

@@ -6,7 +6,7 @@ mod engine;
 mod hub;
 mod perform;
 mod publish;
-mod served;
+mod names;
 mod turn;
 
 pub use hub::Hub;

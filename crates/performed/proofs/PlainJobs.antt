@@ -1,4 +1,4 @@
--- An actor of a script that is served has answered at most 1000 operations, plans updates that fit into commands, and dropped no more notices
+-- An actor of a script has answered at most 1000 operations, plans updates that fit into commands, and dropped no more notices
 -- than there were publications.
 use Rattle.std.proofs.Common.{◌≡◌, ℕ, zero, suc, ◌≤◌, ◌==◌, ◌&&◌, true, List, [], ◌∷◌, length, Option, Some, None, refl, ap, ◌∙◌, arith}
 use Rattle.std.specs.Prelude.{nat_le, slice_get, unwrap_or}
@@ -16,7 +16,7 @@ use Rattle.rules.specs.declared.kept.Job.{Job}
 use Rattle.rules.specs.declared.kept.Kept.{Kept}
 use Rattle.rules.specs.Kept.{begun_of, first_job, operations_of}
 use Rattle.rules.specs.After.{kept_of}
-use Rattle.performed.specs.Served.{serves}
+use Rattle.performed.specs.Names.{has_utf8_names}
 use Rattle.performed.specs.Followed.{are_followed}
 use Rattle.performed.specs.Laws.{HasShortPlan, IsShortPlan, IsPlainJob, ArePlainJobs, IsPlain}
 use Rattle.performed.proofs.Plain.{Keeps, KeepsJob, keeps}
@@ -61,7 +61,7 @@ job_short events i jobs x each here = by_begun x.begun refl
     by_begun None e = tt
     by_begun (Some b) e = each b (ap (λ (o : Option Job). (unwrap_or o first_job).begun) here ∙ e)
 
-pub stays_plain : PlansFit → (s : Script) (lines : List Line) → keeps_rules s ≡ true → serves s ≡ true → are_followed s lines ≡ true → IsPlain (kept_of s lines)
+pub stays_plain : PlansFit → (s : Script) (lines : List Line) → keeps_rules s ≡ true → has_utf8_names s ≡ true → are_followed s lines ≡ true → IsPlain (kept_of s lines)
 stays_plain law s lines rules serving followed =
     let h : Keeps s (kept_of s lines) = keeps s lines followed in
     let k : Kept = kept_of s lines in
