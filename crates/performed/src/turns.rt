@@ -4,8 +4,8 @@ ghost use Rattle.performed.specs.Laws.{StaysPlain, TurnsMove};
 use book_plans::plans_fit;
 use rules::{edit_is_planned_for_card, kept_agrees};
 
-/// An actor of a script plans only updates that fit into commands, has no mailbox, has answered at most
-/// 1000 operations, and holds only channels from 1 to 19.
+/// An actor plans only updates that fit into commands, dropped no more notices than there were
+/// publications, has answered at most 1000 operations, and holds only channels from 1 to 19.
 pub fn actors_stay_plain()
     ensures { StaysPlain }
 {
