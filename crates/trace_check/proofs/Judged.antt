@@ -11,30 +11,15 @@ use Rattle.report.specs.declared.line.Line.TheVariants as line
 use Rattle.report.specs.declared.lines.Report.{Report}
 use Rattle.rules.specs.State.{State, state_of, state_after}
 use Rattle.rules.specs.Legal.{lowest_broken, line_tests, end_tests, changed_in, Judged, at_line, judged_after, judged_of, judged_end, first_broken}
-use Rattle.trace_check.specs.UpTo.{seen, IsUnbroken}
+use Rattle.report_summary.specs.Summary.{seen}
+use Rattle.report_summary.proofs.Counted as counted
+use Rattle.trace_check.specs.UpTo.{IsUnbroken}
 
 -- ---- the lines so far, the newest first
 
-pub seen_more : (lines : List Line) (at : ℕ) (l : Line) → slice_get (reverse lines) at ≡ Some l → seen (at + 1) lines ≡ l ∷ seen at lines
-seen_more lines at l e =
-    let within : at < length (reverse lines) = slice_get_within (reverse lines) at l e in
-    let same : get_or (reverse lines) at (line.Turn 0) ≡ l = get_or_from_slice_get (reverse lines) at l (line.Turn 0) e in
-    ap reverse (take_more (reverse lines) at (line.Turn 0) within)
-    ∙ reverse-append (take at (reverse lines)) (get_or (reverse lines) at (line.Turn 0) ∷ [])
-    ∙ ap (λ x. x ∷ seen at lines) same
-
 -- the line of each index is there
 pub line_there : (lines : List Line) (at : ℕ) → at < length lines → slice_get (reverse lines) at ≡ None → ⊥
-line_there lines at h none =
-    let within : at < length (reverse lines) = subst (λ (n : ℕ). at < n) (sym (length-reverse lines)) h in
-    let there : slice_get (reverse lines) at ≡ Some (get_or (reverse lines) at (line.Turn 0)) = slice_get-get_or (reverse lines) at (line.Turn 0) within in
-    absurd (cc)
-
-pub seen_all : (lines : List Line) → seen (length lines) lines ≡ lines
-seen_all lines =
-    ap (λ n. reverse (take n (reverse lines))) (sym (length-reverse lines))
-    ∙ ap reverse (take-length (reverse lines))
-    ∙ reverse-reverse lines
+line_there lines at h none = counted.line_there lines at h none
 
 -- the lines that are still to come stand before them
 seen_behind : (lines : List Line) (at : ℕ) → reverse (drop at (reverse lines)) ++ seen at lines ≡ lines

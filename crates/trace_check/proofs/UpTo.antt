@@ -8,8 +8,10 @@ use Rattle.trace_check.specs.declared.behind.Behind.{Behind}
 use Rattle.trace_check.specs.Behind.{IsBehind}
 use Rattle.trace_check.specs.Displays.{AreShown}
 use Rattle.trace_check.specs.Judging.{tests_now, end_tests_now, IsFirst, IsReady, Follows}
-use Rattle.trace_check.specs.UpTo.{seen, IsUnbroken, UpTo}
-use Rattle.trace_check.proofs.Judged.{seen_more, seen_all, unbroken_first, unbroken_more, first_at, first_at_end}
+use Rattle.report_summary.specs.Summary.{seen}
+use Rattle.report_summary.proofs.Counted.{seen_more, seen_all}
+use Rattle.trace_check.specs.UpTo.{IsUnbroken, UpTo}
+use Rattle.trace_check.proofs.Judged.{unbroken_first, unbroken_more, first_at, first_at_end}
 use Rattle.trace_check.proofs.Knowing.{lowest_now, lowest_at_end}
 use Rattle.trace_check.proofs.Stepping.{behind_none, behind_more}
 

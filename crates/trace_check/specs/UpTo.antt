@@ -4,14 +4,11 @@ use Rattle.script_reader.specs.declared.types.Script.{Script}
 use Rattle.report.specs.declared.line.Mode.{Mode}
 use Rattle.report.specs.declared.line.Line.{Line}
 use Rattle.report.specs.declared.lines.Report.{Report}
+use Rattle.report_summary.specs.Summary.{seen}
 use Rattle.rules.specs.State.{state_of}
 use Rattle.rules.specs.Legal.{judged_of}
 use Rattle.trace_check.specs.declared.behind.Behind.{Behind}
 use Rattle.trace_check.specs.Behind.{IsBehind}
-
--- so many lines from the first on, the newest first
-abbrev pub seen : ℕ → List Line → List Line
-seen at lines = reverse (take at (reverse lines))
 
 -- these lines, so many, break no rule
 pub record IsUnbroken (s : Script) (m : Mode) (lines : List Line) (at : ℕ) : Type 0 where
