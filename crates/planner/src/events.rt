@@ -10,8 +10,7 @@ use card_model::{CardState, World, WorldEvent, WorldRefusal};
 use report::Answer;
 use rules::Kept;
 
-/// The card in the slot.
-pub fn card_inside(world: &World) -> Option<&CardState>
+fn card_inside(world: &World) -> Option<&CardState>
     ensures { option_copied result ≡ card_in world.now }
 {
     match world.inside {

@@ -19,13 +19,12 @@ pub use answers::due_answer;
 pub use commands::{due_command, due_publication, is_reset_due, tried_event};
 pub use decisions::{decision_at_begin, decision_at_turn, work_of_operation};
 pub use edits::EditPlans;
-pub use events::{answer_of_refusal, card_inside, due_event, slot_answer};
+pub use events::{answer_of_refusal, due_event, slot_answer};
 pub use fits::{handles_fit, turn_fits};
-pub use holdings::{lacking_key, lives_in};
 pub use left::{LeftRows, left_rows};
 pub use next_line::{due, due_with};
 pub use open::{
     has_ended, has_operations_left, has_work, is_finished, is_idle, is_quiet, is_starting, waits_on,
 };
-pub use operations::{answered_of, begun_of, operation_at, operation_now};
-pub use work::{family_read, framework_work, verify_command};
+pub use operations::{begun_of, operation_at, operation_now};
+pub use work::{family_read, framework_work};

@@ -126,7 +126,7 @@ pub(crate) fn status_command() -> Command
 }
 
 /// VERIFY PIN, ETSI TS 102 221 clause 11.1.9.
-pub fn verify_command(key: u8, pin: &[u8; 8]) -> Command
+pub(crate) fn verify_command(key: u8, pin: &[u8; 8]) -> Command
     ensures { result ≡ session_rules.verify_command key pin.now }
 {
     let mut body = ArrayVec::new();

@@ -1,14 +1,12 @@
 -- What a line that breaks no rule says, and does to the world.
-use Rattle.std.proofs.Common.{◌≡◌, ◌==◌, ◌&&◌, ◌+◌, ℕ, Bool, true, false, if◌then◌else◌, Option, Some, None, List, [], ◌∷◌, refl, ap, sym, subst, ◌∙◌, eqb-true}
-use Rattle.std.specs.Prelude.{is_some, is_none, slice_get, option_and_then}
+use Rattle.std.proofs.Common.{◌≡◌, ◌==◌, ◌&&◌, ◌+◌, ℕ, Bool, true, false, if◌then◌else◌, Option, Some, None, List, [], ◌∷◌, refl, ap, sym, ◌∙◌, eqb-true}
+use Rattle.std.specs.Prelude.{is_some, is_none}
 use Rattle.std.proofs.lemmas.Bool.{and_parts}
 use Rattle.apdu.specs.Words.{has_value}
-use Rattle.card_model.specs.declared.world.CardState.{CardState}
 use Rattle.card_model.specs.declared.world.World.{World}
 use Rattle.card_model.specs.declared.world.WorldEvent.{WorldEvent}
 use Rattle.card_model.specs.declared.world.WorldEvent.TheVariants as world_event
 use Rattle.card_model.specs.Slot.{refusal_of}
-use Rattle.card_model.specs.Step.{card_inside, inserted, reset_in, after_reset}
 use Rattle.script_reader.specs.declared.types.Script.{Script}
 use Rattle.report.specs.declared.line.Mode.{Mode}
 use Rattle.report.specs.declared.line.Line.{Line}
@@ -34,21 +32,6 @@ no_response world (line.Published k f e n text) h = refl
 no_response world (line.EpochEnd k e n) h = refl
 no_response world (line.Refused f n) h = refl
 no_response world (line.Answered a i given) h = refl
-
--- ---- resets
-
-inserted_none : (w : World) (j : ℕ) (o : Option CardState) → o ≡ None → inserted w j o ≡ w
-inserted_none w j None h = refl
-inserted_none w j (Some card) h = absurd (cc)
-
-reset_none : (w : World) (inside : Option ℕ) → option_and_then (λ j. slice_get w.cards j) inside ≡ None → reset_in w inside ≡ w
-reset_none w None h = refl
-reset_none w (Some j) h = inserted_none w j (slice_get w.cards j) h
-
--- without a card nothing is reset
-pub reset_of_nothing : (world : World) → card_inside world ≡ None → after_reset world ≡ world
-unfolding after_reset
-reset_of_nothing world h = reset_none world world.inside h
 
 -- ---- tests that pass
 

@@ -1,9 +1,9 @@
 -- Judging line by line comes to the first broken line.
-use Rattle.std.proofs.Common.{◌≡◌, ◌<◌, ◌≤◌, ◌+◌, ℕ, List, [], ◌∷◌, ◌++◌, length, take, drop, slice_get, get_or, Option, Some, None, refl, ap, sym, subst, ◌∙◌, arith, append_assoc}
+use Rattle.std.proofs.Common.{◌≡◌, ◌<◌, ◌+◌, ℕ, List, [], ◌∷◌, ◌++◌, length, take, drop, slice_get, get_or, Option, Some, None, refl, ap, sym, subst, ◌∙◌, arith}
 use Rattle.std.specs.Prelude.{reverse}
 use Rattle.std.proofs.Math.Seq.{take-length}
 use Rattle.std.proofs.lemmas.List.{take_more, reverse-append, reverse-reverse, length-reverse, take-append-drop}
-use Rattle.std.proofs.lemmas.Option.{slice_get_within, get_or_from_slice_get}
+use Rattle.std.proofs.lemmas.Option.{slice_get_within, slice_get-get_or, get_or_from_slice_get}
 use Rattle.script_reader.specs.declared.types.Script.{Script}
 use Rattle.report.specs.declared.line.Mode.{Mode}
 use Rattle.report.specs.declared.line.Line.{Line}
@@ -22,6 +22,13 @@ seen_more lines at l e =
     ap reverse (take_more (reverse lines) at (line.Turn 0) within)
     ∙ reverse-append (take at (reverse lines)) (get_or (reverse lines) at (line.Turn 0) ∷ [])
     ∙ ap (λ x. x ∷ seen at lines) same
+
+-- the line of each index is there
+pub line_there : (lines : List Line) (at : ℕ) → at < length lines → slice_get (reverse lines) at ≡ None → ⊥
+line_there lines at h none =
+    let within : at < length (reverse lines) = subst (λ (n : ℕ). at < n) (sym (length-reverse lines)) h in
+    let there : slice_get (reverse lines) at ≡ Some (get_or (reverse lines) at (line.Turn 0)) = slice_get-get_or (reverse lines) at (line.Turn 0) within in
+    absurd (cc)
 
 pub seen_all : (lines : List Line) → seen (length lines) lines ≡ lines
 seen_all lines =

@@ -1,6 +1,6 @@
 -- What stands behind the lines gives the tests of the rules.
-use Rattle.std.proofs.Common.{◌≡◌, ◌==◌, ◌&&◌, ◌+◌, ◌-◌, ◌≤◌, ℕ, zero, suc, Bool, true, false, if◌then◌else◌, Option, Some, None, List, [], ◌∷◌, ◌++◌, map, length, refl, ap, sym, subst, ◌∙◌, arith}
-use Rattle.std.specs.Prelude.{reverse, slice_get, unwrap_or, option_map, max, nat_lt, IfSome}
+use Rattle.std.proofs.Common.{◌≡◌, ◌&&◌, ℕ, Bool, true, false, Option, Some, None, List, [], ◌∷◌, length, refl, ap, sym, subst, ◌∙◌, arith}
+use Rattle.std.specs.Prelude.{reverse, slice_get, max, nat_lt, IfSome}
 use Rattle.std.specs.List.{list_all}
 use Rattle.apdu.specs.Words.{has_value}
 use Rattle.card_model.specs.declared.world.World.{World}
@@ -13,7 +13,7 @@ use Rattle.report.specs.declared.line.Line.TheVariants as line
 use Rattle.rules.specs.declared.kept.Kept.{Kept}
 use Rattle.rules.specs.declared.standing.Standing.{Standing}
 use Rattle.rules.specs.Work.{is_quiet, is_finished}
-use Rattle.rules.specs.After.{is_mark, kept_of}
+use Rattle.rules.specs.After.{kept_of}
 use Rattle.rules.specs.State.{State, world_of, boards_of, texts_of, text_of, shown_in, same_shown, state_of}
 use Rattle.rules.specs.Rules as rules
 use Rattle.rules.specs.Rules.{has_right_place}
@@ -24,7 +24,7 @@ use Rattle.trace_check.specs.declared.displays.Display.{Display}
 use Rattle.trace_check.specs.declared.displays.Displays.{Displays}
 use Rattle.trace_check.specs.Behind.{TellsShown, Tells, IsDisplay, AreDisplays, IsBehind}
 use Rattle.trace_check.specs.Displays as spec
-use Rattle.trace_check.specs.Judging.{seen_state, state_now, mark_tests_now, end_tests_now, tests_now}
+use Rattle.trace_check.specs.Judging.{state_now, mark_tests_now, end_tests_now, tests_now}
 
 -- ---- no test of a place looks at the texts
 

@@ -1,5 +1,5 @@
 -- What is said of a report, from what was judged.
-use Rattle.std.proofs.Common.{◌≡◌, ◌+◌, ℕ, List, slice_get, length, Option, Some, None, Result, Ok, Err, true, refl, ap, sym, subst, ◌∙◌}
+use Rattle.std.proofs.Common.{◌≡◌, ◌+◌, ℕ, slice_get, length, Option, Some, None, Result, Ok, Err, true, refl, ap, sym, subst, ◌∙◌}
 use Rattle.std.specs.Prelude.{reverse, is_err, OnOk}
 use Rattle.report.specs.declared.line.Line.{Line}
 use Rattle.report.specs.declared.lines.Report.{Report}

@@ -1,6 +1,6 @@
 -- The tests of an exchange, done or failed, and what stands behind a line that was tested.
-use Rattle.std.proofs.Common.{◌≡◌, ◌&&◌, ◌||◌, ◌+◌, ℕ, Bool, true, false, Option, Some, None, List, [], ◌∷◌, length, refl, ap, sym, subst, ◌∙◌}
-use Rattle.std.specs.Prelude.{is_some, Result, Ok, Err, IfOk}
+use Rattle.std.proofs.Common.{◌≡◌, ◌&&◌, ◌+◌, ℕ, Bool, true, false, Option, Some, None, List, [], ◌∷◌, refl, ap, sym, subst, ◌∙◌}
+use Rattle.std.specs.Prelude.{is_some, Result, IfOk}
 use Rattle.apdu.specs.Values.{CommandValue, ResponseValue}
 use Rattle.card_model.specs.declared.world.World.{World}
 use Rattle.card_model.specs.Step.{step, card_inside}
@@ -123,6 +123,29 @@ still_by : (x : Bool) (l : Line) (w : World) → x ≡ false → w ≡ elim x [ 
 still_by true l w h = absurd (cc)
 still_by false l w h = refl
 
+-- the test of an exchange is its step
+pub exchange_tested : (l : Line) (a : ℕ) (c : CommandValue) (r : ResponseValue) (old new : Behind) → l ≡ line.Exchange a c r → new.slot.world ≡ (step old.slot.world c).0 → new.slot.plan.faults ≡ [] → new.tracker ≡ old.tracker → new.boards ≡ old.boards → new.displays ≡ old.displays → Tested l old new
+exchange_tested l a c r old new e w faults kept boards displays = record {
+  world = w ∙ sym (ap (λ (x : Line). world_tested x old.slot.world) e);
+  faults = faults;
+  kept = kept;
+  boards = boards;
+  displays = displays;
+}
+
+failed_world : (a : ℕ) (w : World) (c : CommandValue) (d : Bool) → world_failed w c d ≡ world_after (line.Failed a c d) w
+failed_world a w c true = refl
+failed_world a w c false = refl
+
+pub failed_tested : (l : Line) (a : ℕ) (c : CommandValue) (d : Bool) (old new : Behind) → l ≡ line.Failed a c d → new.slot.world ≡ world_failed old.slot.world c d → new.slot.plan.faults ≡ [] → new.tracker ≡ old.tracker → new.boards ≡ old.boards → new.displays ≡ old.displays → Tested l old new
+failed_tested l a c d old new e w faults kept boards displays = record {
+  world = w ∙ failed_world a old.slot.world c d ∙ sym (ap (λ (x : Line). world_tested x old.slot.world) e);
+  faults = faults;
+  kept = kept;
+  boards = boards;
+  displays = displays;
+}
+
 -- the test of a line that is no exchange changes nothing
 pub tested_still : (l : Line) (b : Behind) → is_sent l ≡ false → IsReady b → Tested l b b
 tested_still l b h ready = record { world = still_by (is_sent l) l b.slot.world h; faults = ready.faults; kept = refl; boards = refl; displays = refl }
@@ -154,6 +177,18 @@ taken_by (line.Published k f e n text) w h = refl
 taken_by (line.EpochEnd k e n) w h = refl
 taken_by (line.Refused f n) w h = refl
 taken_by (line.Answered a i given) w h = refl
+
+-- what was changed part by part is what follows the test
+pub followed_by : (s : Script) (l : Line) (old new : Behind) (before behind : Kept) (event : ℕ) (world : World) → before ≡ old.tracker → event ≡ before.history.events + 1 → new.slot.world ≡ world_followed l old.slot.world → new.slot.plan.faults ≡ [] → world ≡ new.slot.world → new.displays ≡ displays_behind l event world old.displays → new.tracker ≡ kept_after s l old.tracker → behind ≡ new.tracker → new.boards ≡ boards_behind l behind old.boards → Followed s l old new
+followed_by s l old new before behind event world b n w faults v d k q boards = record {
+  world = w;
+  faults = faults;
+  kept = k;
+  boards = boards ∙ ap (λ (x : Kept). boards_behind l x old.boards) (q ∙ k);
+  displays = d
+      ∙ ap (λ (x : ℕ). displays_behind l x world old.displays) (n ∙ ap (λ (x : Kept). x.history.events + 1) b)
+      ∙ ap (λ (x : World). displays_behind l (old.tracker.history.events + 1) x old.displays) (v ∙ w);
+}
 
 -- a line that breaks no rule can be followed behind its test
 pub tested_follow : (s : Script) (m : Mode) (l : Line) (old mid : Behind) → HasSpace old → lowest_broken (tests_now s m l old) ≡ None → Tested l old mid → MayFollow l mid

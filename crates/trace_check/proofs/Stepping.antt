@@ -1,6 +1,6 @@
 -- What stands behind one line more.
-use Rattle.std.proofs.Common.{◌≡◌, ◌==◌, ◌&&◌, ◌+◌, ◌-◌, ◌≤◌, ℕ, suc, Bool, true, false, if◌then◌else◌, Option, Some, None, List, [], ◌∷◌, ◌++◌, map, length, refl, ap, sym, subst, ◌∙◌, arith}
-use Rattle.std.specs.Prelude.{reverse, slice_get, unwrap_or, option_map, IfSome}
+use Rattle.std.proofs.Common.{◌≡◌, ◌==◌, ◌+◌, ◌-◌, ◌≤◌, ℕ, suc, Bool, true, false, if◌then◌else◌, Option, Some, None, List, [], ◌∷◌, ◌++◌, length, refl, ap, sym, subst, ◌∙◌, arith}
+use Rattle.std.specs.Prelude.{reverse, slice_get, option_map, IfSome}
 use Rattle.std.proofs.lemmas.List.{reverse-append, length-append, length-map}
 use Rattle.std.proofs.lemmas.Option.{slice_get-map}
 use Rattle.card_model.specs.declared.world.World.{World}
@@ -18,7 +18,7 @@ use Rattle.rules.specs.declared.standing.Standing.{Standing}
 use Rattle.rules.specs.History.{is_event}
 use Rattle.rules.specs.Standing.{standing_after, shown_behind, board_of}
 use Rattle.rules.specs.After.{is_publication, kept_after, kept_of, facts_of, refused_of, jobs_beside, family_begun}
-use Rattle.rules.specs.State.{State, world_after, world_of, boards_after, boards_of, texts_after, texts_of, text_of, shown_in, same_shown, Changes, changes_of, state_of}
+use Rattle.rules.specs.State.{world_after, world_of, texts_after, texts_of, text_of, shown_in, same_shown, Changes, changes_of, state_of}
 use Rattle.rules.specs.Legal.{lowest_broken, line_tests, changed_in}
 use Rattle.trace_check.specs.declared.behind.Behind.{Behind}
 use Rattle.trace_check.specs.declared.displays.Display.{Display}

@@ -1,7 +1,6 @@
 -- What stands behind lines, the newest first.
-use Rattle.std.specs.Prelude.{◌≡◌, ◌≤◌, ℕ, List, [], length, reverse, take, slice_get, IfSome}
+use Rattle.std.specs.Prelude.{◌≡◌, ◌≤◌, ℕ, List, [], length, reverse, slice_get, IfSome}
 use Rattle.script_reader.specs.declared.types.Script.{Script}
-use Rattle.report.specs.declared.line.Mode.{Mode}
 use Rattle.report.specs.declared.line.Line.{Line}
 use Rattle.families.specs.Families.{records, phonebook, fixed}
 use Rattle.rules.specs.declared.standing.Standing.{Standing}

@@ -1,7 +1,9 @@
 -- What an UPDATE is held against, before the card has it and behind it.
-use Rattle.std.specs.Prelude.{◌&&◌, ◌||◌, Bool, true, false, Option, Some, None, Result}
+use Rattle.std.specs.Prelude.{◌&&◌, ◌||◌, Bool, true, false, List, Option, Some, None, Result}
 use Rattle.apdu.specs.Values.{CommandValue, ResponseValue}
 use Rattle.apdu.specs.Apdu.{is_success}
+use Rattle.adn.specs.declared.entry.BookRow.{BookRow}
+use Rattle.adn.specs.declared.edit.Edit.{Edit}
 use Rattle.adn.specs.declared.edit.Plan.{Plan}
 use Rattle.adn.specs.declared.edit.PlanError.{PlanError}
 use Rattle.card_model.specs.declared.world.World.{World}
@@ -34,14 +36,18 @@ update_by world k c (Some e) = update_of_edit world k c e
 abbrev pub update_before : Script → World → Kept → CommandValue → Update
 update_before s world k c = elim (is_outside_raw s k c) [ true ↦ update_by world k c (edit_turn s k) | false ↦ Free ]
 
+-- the edited book stands behind a deciding success, and behind any other update the one before it
+abbrev pub is_book_right : Bool → Edit → List BookRow → List BookRow → Bool
+is_book_right decides e book behind = elim decides [
+  | true ↦ same_book behind (edited book e)
+  | false ↦ same_book behind book
+]
+
 -- behind an exchange, which left this world
 abbrev pub is_right_behind : World → ResponseValue → Update → Bool
 is_right_behind world r Free = true
 is_right_behind world r Stray = false
-is_right_behind world r (OfEdit ordered deciding f e book) = ordered && elim (deciding && is_success r.sw) [
-  | true ↦ same_book (book_in world f) (edited book e)
-  | false ↦ same_book (book_in world f) book
-]
+is_right_behind world r (OfEdit ordered deciding f e book) = ordered && is_book_right (deciding && is_success r.sw) e book (book_in world f)
 
 -- behind a failed exchange, which left this world
 abbrev pub is_right_lost : World → Update → Bool

@@ -1,5 +1,5 @@
 -- What stands behind the lines so far, the tests by it, and how a line changes it.
-use Rattle.std.specs.Prelude.{◌≡◌, ℕ, ◌+◌, Bool, true, false, if◌then◌else◌, List, [], ◌∷◌, ◌++◌, length, reverse, slice_get, unwrap_or, Option, Some, None, ◌==◌, ◌-◌, ◌&&◌, is_some}
+use Rattle.std.specs.Prelude.{◌≡◌, ℕ, ◌+◌, Bool, true, false, if◌then◌else◌, List, [], ◌∷◌, ◌++◌, length, reverse, slice_get, unwrap_or, Option, ◌==◌, ◌-◌, ◌&&◌, is_some}
 use Rattle.card_model.specs.declared.world.World.{World}
 use Rattle.card_model.specs.Slot.{refusal_of}
 use Rattle.script_reader.specs.declared.types.Script.{Script}
@@ -85,6 +85,14 @@ pub record HasSpace (b : Behind) : Type 0 where
   pub room : HasRoom b.tracker
   pub handles : handles_fit b.tracker.handles ≡ true
   pub turn : turn_fits b.tracker.turn.actor b.tracker.jobs ≡ true
+
+-- what is kept behind the line may ask for memory
+abbrev pub asks_memory : Line → Bool
+asks_memory (line.Turn a) = true
+asks_memory (line.Begin a i) = true
+asks_memory (line.Exchange a c r) = true
+asks_memory (line.Answered a i given) = true
+asks_memory l = false
 
 -- the slot refuses the line's event of the world
 abbrev pub is_refused : World → Line → Bool

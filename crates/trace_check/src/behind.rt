@@ -13,9 +13,10 @@ ghost use Rattle.trace_check.specs.Judging as spec;
 use crate::boards::{Boards, keep_board};
 use crate::displays::{Displays, first_displays, refresh_all, tell_all};
 use crate::edits::is_update_ins;
+use crate::exchanging::{happen, reset};
 use crate::plans::FamilyPlans;
 use apdu::{Memory, Sequence};
-use card_model::{ScriptedSlot, Slot, World};
+use card_model::World;
 use planner::{decision_at_begin, decision_at_turn, handles_fit, turn_fits};
 use report::{Line, Mode, Report};
 use script::Script;
@@ -74,7 +75,6 @@ impl Behind {
 }
 
 /// A line that is no exchange happens to the world, if it is one that the slot takes.
-#[tactic(auto, using(crate::proofs::Following::reset_of_nothing))]
 fn step_world(line: &Line, slot: &mut SimSlot)
     requires faults { slot.old.plan.faults ≡ [] }
     requires taken { spec.is_refused slot.old.world line.now ≡ false }
@@ -82,12 +82,8 @@ fn step_world(line: &Line, slot: &mut SimSlot)
     ensures faults { slot.new.plan.faults ≡ [] }
 {
     match line {
-        Line::Reset { .. } => {
-            let _ = slot.reset();
-        }
-        Line::World { event, .. } => {
-            let _ = slot.world(event);
-        }
+        Line::Reset { .. } => reset(slot),
+        Line::World { event, .. } => happen(slot, event),
         _ => {}
     }
 }
@@ -106,7 +102,6 @@ fn writes_nothing(line: &Line) -> bool
 
 /// What the card shows, and the board, behind a line, which left this world; `event` is its number where it is one. Where no file was
 /// written, what the card showed before is what it shows.
-#[tactic(auto, using(crate::proofs::Still::stays_behind))]
 fn keep_displays(
     alloc: Global,
     line: &Line,
@@ -134,6 +129,30 @@ fn keep_displays(
             ..
         } => tell_all(alloc, *family, content, displays),
         _ => Ok(()),
+    }
+}
+
+/// What is kept behind a line that asks for no memory.
+fn keep_plain(script: &Script, line: &Line, tracker: &mut Tracker)
+    requires plain { spec.asks_memory line.now ≡ false }
+    requires room { HasRoom tracker.old }
+    ensures { tracker.new ≡ kept_after script.now line.now tracker.old }
+{
+    match line {
+        Line::Failed { .. } => tracker.fail(script, line),
+        Line::Reset { actor } => tracker.reset(script, *actor),
+        Line::ResetFailed { actor } => tracker.fail_reset(script, *actor),
+        Line::World { actor, event } => tracker.happen(script, *actor, *event),
+        Line::Published { .. } => tracker.publish(script, line),
+        Line::EpochEnd {
+            number,
+            epoch,
+            event,
+        } => tracker.end_epoch(script, *number, *epoch, *event),
+        Line::Refused { family, event } => tracker.refuse(script, *family, *event),
+        Line::Turn { .. } | Line::Begin { .. } | Line::Exchange { .. } | Line::Answered { .. } => {
+            unreachable!()
+        }
     }
 }
 
@@ -210,29 +229,19 @@ impl Bench<'_> {
         ensures { OnOk result (tracker.new
             ≡ kept_after self.now.script.now line.now tracker.old) }
     {
-        let script = self.script;
         match line {
-            Line::Turn { actor } => return self.keep_turn(*actor, tracker),
-            Line::Begin { actor, op } => return self.keep_begin(*actor, *op, tracker),
-            Line::Exchange { .. } => return self.keep_exchange(line, tracker),
-            Line::Failed { .. } => tracker.fail(script, line),
-            Line::Reset { actor } => tracker.reset(script, *actor),
-            Line::ResetFailed { actor } => tracker.fail_reset(script, *actor),
-            Line::World { actor, event } => tracker.happen(script, *actor, *event),
-            Line::Published { .. } => tracker.publish(script, line),
-            Line::EpochEnd {
-                number,
-                epoch,
-                event,
-            } => tracker.end_epoch(script, *number, *epoch, *event),
-            Line::Refused { family, event } => tracker.refuse(script, *family, *event),
-            Line::Answered { .. } => return tracker.answer(script, line),
+            Line::Turn { actor } => self.keep_turn(*actor, tracker),
+            Line::Begin { actor, op } => self.keep_begin(*actor, *op, tracker),
+            Line::Exchange { .. } => self.keep_exchange(line, tracker),
+            Line::Answered { .. } => tracker.answer(self.script, line),
+            _ => {
+                keep_plain(self.script, line, tracker);
+                Ok(())
+            }
         }
-        Ok(())
     }
 
     /// What stands behind a line that breaks no rule. The card has the command of an exchange already.
-    #[tactic(auto, using(crate::proofs::Still::shown_followed))]
     pub fn follow(&self, line: &Line, behind: &mut Behind) -> Result<(), Memory>
         requires rules { keeps_rules self.now.script.now ≡ true }
         requires tested { spec.MayFollow line.now behind.old }

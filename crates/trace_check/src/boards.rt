@@ -40,6 +40,7 @@ pub fn keep_board(line: &Line, kept: &Kept, boards: &mut Boards) -> Result<(), M
     Ok(())
 }
 
+/// How many publications an actor had seen.
 fn seen_of(actor: u8, kept: &Kept) -> u64
     ensures { result ≡ (job_of actor kept.now.jobs).seen }
 {

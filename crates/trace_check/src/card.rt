@@ -3,6 +3,7 @@ ghost use Rattle.std.specs.Prelude.{◌≡◌, ◌<◌, IfOk};
 ghost use Rattle.std.specs.Option.{option_copied};
 ghost use Rattle.fcp.specs.Content.{missing as no_file};
 ghost use Rattle.card_model.specs.Card.{rows_of as rows_on};
+ghost use Rattle.card_model.specs.Step.{card_inside as card_in};
 ghost use Rattle.families.specs.Families as families;
 ghost use Rattle.rules.specs.State as state;
 ghost use Rattle.serde_json.specs.Written.{compact_text};
@@ -14,11 +15,20 @@ use card_rows::file_of;
 use editor::family_paths;
 use families::{ContentText, Families, Standard, StandardContent};
 use fcp::{FileView, Rows};
-use planner::card_inside;
 use std::alloc::Global;
 
 /// The number of families that a card can show.
 const FAMILIES: u8 = 3;
+
+/// The card in the slot.
+pub fn card_inside(world: &World) -> Option<&CardState>
+    ensures { option_copied result ≡ card_in world.now }
+{
+    match world.inside {
+        None => None,
+        Some(place) => world.cards.get(place as usize),
+    }
+}
 
 /// The files of a card.
 #[derive(Drop)]

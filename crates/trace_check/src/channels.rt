@@ -7,15 +7,16 @@ ghost use Rattle.rules.specs.Channels.{held_numbers, is_living_handle};
 ghost use Rattle.rules.specs.Rules as rules;
 ghost use Rattle.trace_check.specs.Channels as spec;
 
+use crate::card::card_inside;
+use crate::holdings::is_living;
 use card_model::{CardState, ChannelState, World};
 use epoch_cache::Past;
-use planner::card_inside;
 use rules::{Handle, Kept};
 
 fn lives(history: Past, handle: &Handle) -> bool
     ensures { result ≡ is_living_handle history handle.now }
 {
-    history.living && history.epoch == handle.epoch
+    is_living(history, handle.epoch)
 }
 
 fn holds(history: Past, number: u8, handle: &Handle) -> bool

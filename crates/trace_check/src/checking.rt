@@ -48,6 +48,7 @@ fn verdict(line: u64, broken: Option<u8>) -> Result<(), CheckError>
 }
 
 /// The line of this index, from the first line behind the mode.
+#[tactic(auto, using(crate::proofs::Judged::line_there))]
 fn line_of(lines: &Lines, at: usize) -> Result<Line, Memory>
     requires { at < length lines.now }
     ensures { IfOk result (λ line. slice_get (reverse lines.now) at ≡ Some line) }
@@ -59,7 +60,6 @@ fn line_of(lines: &Lines, at: usize) -> Result<Line, Memory>
 }
 
 /// Judges a line behind the lines before it; `at` is its index.
-#[tactic(auto, using(crate::proofs::UpTo::upto_ready))]
 fn judge_line(
     alloc: Global,
     report: &Report,
@@ -98,7 +98,6 @@ fn judge_next(
 }
 
 /// Judges the end of a report of which no line breaks a rule.
-#[tactic(auto, using(crate::proofs::UpTo::upto_ready))]
 fn judge_end(alloc: Global, report: &Report, behind: &Behind) -> Result<(), CheckError>
     requires rules { keeps_rules report.now.script ≡ true }
     requires few { length report.now.lines + 3 < 2 ^ 64 }

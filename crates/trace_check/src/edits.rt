@@ -2,9 +2,9 @@
 // for the card at its first, in order, one in a turn, and for each the actor holds the session of the key that its file asks for. Behind a
 // deciding success the book is the edited one; behind a deciding update that failed it is one of the two; behind every other update it is
 // the one before. An edit that is done names the deciding success and the rows that stay marked, and no update is left to send.
-ghost use Rattle.std.specs.Prelude.{◌≡◌, [], true, false, Some, is_some, option_map, slice_get, unwrap_or, IfOk, IfSome};
+ghost use Rattle.std.specs.Prelude.{◌≡◌, ◌&&◌, [], true, false, Some, is_some, option_map, slice_get, unwrap_or, IfOk, IfSome};
 ghost use Rattle.std.specs.Option.{option_copied};
-ghost use Rattle.apdu.specs.Apdu.{is_update_ins as is_update, same_command as same_commands};
+ghost use Rattle.apdu.specs.Apdu.{is_success, is_update_ins as is_update, same_command as same_commands};
 ghost use Rattle.apdu.specs.Words.{has_value, same_bytes as same_paths};
 ghost use Rattle.card_model.specs.declared.world.World.{World as WorldValue};
 ghost use Rattle.editor.specs.Editing as editing;
@@ -17,6 +17,8 @@ ghost use Rattle.trace_check.specs.Edits as spec;
 ghost use Rattle.trace_check.specs.Judging.{is_sent};
 
 use crate::books::{book_in, edit_of, make_edit, same_book};
+use crate::card::card_inside;
+use crate::holdings::{has_needed_session, lives_in};
 use crate::plans::{first_update, has_updates, is_update, plan_now};
 use crate::same::same_bytes;
 use crate::verifications::turn_operation;
@@ -27,7 +29,7 @@ use card_rows::{file_of, rule_of};
 use editor::{Attempt, family_paths};
 use fcp::Need;
 use link::{Chain, same_command};
-use planner::{begun_of, card_inside, lacking_key, lives_in, operation_now};
+use planner::{begun_of, operation_now};
 use report::{Answer, Line};
 use rules::{Begun, Kept, Work};
 use script::{Operation, Script};
@@ -115,7 +117,7 @@ fn allowed_on<'a>(
         ≡ rules.allowed_on kept.now (spec.turn_of turn.now) card.now update.now }
 {
     let need = family_need(card, turn.family, update.file);
-    if lacking_key(kept.history, turn.actor, &kept.sessions, need).is_none() {
+    if has_needed_session(kept.history, turn.actor, &kept.sessions, need) {
         Some(update)
     } else {
         None
@@ -259,12 +261,15 @@ fn is_ordered(
 
 // ---- an UPDATE, before the card has it and behind it
 
-fn continues(command: &Command, chain: &Option<Chain>) -> bool
-    ensures { result ≡ is_some (continued command.now chain.now) }
+/// The command that is being sent, where this is a further exchange of it.
+fn continued<'a>(command: &Command, chain: Option<&'a Chain>) -> Option<&'a Chain>
+    ensures { option_copied result ≡ continued command.now (option_copied chain.entry) }
 {
-    match chain {
-        None => false,
-        Some(chain) => same_command(command, &chain.next),
+    let chain = chain?;
+    if same_command(command, &chain.next) {
+        Some(chain)
+    } else {
+        None
     }
 }
 
@@ -279,10 +284,9 @@ fn is_sent_right(
     ensures { IfOk result (λ right. right ≡ rules.is_sent_right world.now kept.now
         (spec.turn_of turn.now) command.now (continued command.now kept.now.chain)) }
 {
-    if continues(command, &kept.chain) {
-        Ok(true)
-    } else {
-        is_ordered(alloc, world, kept, turn, command)
+    match continued(command, kept.chain.as_ref()) {
+        None => is_ordered(alloc, world, kept, turn, command),
+        Some(_) => Ok(true),
     }
 }
 
@@ -307,11 +311,11 @@ pub enum Update {
 }
 
 fn is_first(paths: &[Path], path: &Path) -> bool
-    ensures { result ≡ same_paths path.now (unwrap_or (slice_get paths.now 0) []) }
+    ensures { result ≡ same_paths (unwrap_or (slice_get paths.now 0) []) path.now }
 {
-    match paths.first() {
-        None => path.ids().is_empty(),
-        Some(first) => path.equals(first),
+    match paths {
+        [] => path.ids().is_empty(),
+        [first, ..] => first.equals(path),
     }
 }
 
@@ -390,6 +394,29 @@ fn is_book_edited(alloc: Global, edit: &Edit, book: Book, behind: &Book) -> Resu
     Ok(same_book(behind.as_slice(), book.as_slice()))
 }
 
+fn is_deciding_success(deciding: bool, response: &Response) -> bool
+    ensures { result ≡ (deciding && is_success response.now.sw) }
+{
+    deciding && response.sw.is_success()
+}
+
+/// Whether the book behind an update is right: the edited one behind a deciding success, and behind any other update the one before it.
+fn is_book_right(
+    alloc: Global,
+    decides: bool,
+    edit: &Edit,
+    book: Book,
+    behind: &Book,
+) -> Result<bool, Memory>
+    ensures { IfOk result (λ right. right ≡ spec.is_book_right decides edit.now book behind.now) }
+{
+    if decides {
+        is_book_edited(alloc, edit, book, behind)
+    } else {
+        Ok(same_book(behind.as_slice(), book.as_slice()))
+    }
+}
+
 /// The rule of edits at an exchange; `world` is the one behind it.
 pub fn is_update_right(
     alloc: Global,
@@ -411,11 +438,8 @@ pub fn is_update_right(
             book,
         } => {
             let behind = book_in(alloc, world, family)?;
-            let right = if deciding && response.sw.is_success() {
-                is_book_edited(alloc, &edit, book, &behind)?
-            } else {
-                same_book(behind.as_slice(), book.as_slice())
-            };
+            let decides = is_deciding_success(deciding, response);
+            let right = is_book_right(alloc, decides, &edit, book, &behind)?;
             Ok(ordered && right)
         }
     }

@@ -1,12 +1,13 @@
-// Exchanges with the simulated card, none of which is planned to fail.
+// What lines do to the simulated card; no call is planned to fail.
 ghost use Rattle.std.specs.Prelude.{◌≡◌, [], true, false, is_some, IfSome, IfNone};
-ghost use Rattle.card_model.specs.Step.{card_inside as card_in, step};
+ghost use Rattle.card_model.specs.Slot.{refusal_of};
+ghost use Rattle.card_model.specs.Step.{card_inside as card_in, step, after_reset, after_event};
 ghost use Rattle.rules.specs.Rules.{is_response_right, world_failed};
 ghost use Rattle.trace_check.specs.Exchanging.{IsAnswered};
 
 use crate::same::same_response;
 use apdu::{Command, Response};
-use card_model::Slot;
+use card_model::{ScriptedSlot, Slot, WorldEvent};
 use sim_card::SimSlot;
 
 /// What the card answers, if there is one in the slot.
@@ -50,4 +51,22 @@ pub fn lose(slot: &mut SimSlot, command: &Command, acted: bool)
             None => unreachable!(),
         }
     }
+}
+
+/// Resets the card, if there is one in the slot.
+pub fn reset(slot: &mut SimSlot)
+    requires { slot.old.plan.faults ≡ [] }
+    ensures world { slot.new.world ≡ after_reset slot.old.world }
+    ensures faults { slot.new.plan.faults ≡ [] }
+{
+    let _ = slot.reset();
+}
+
+/// An event of the world, which the slot does not refuse.
+pub fn happen(slot: &mut SimSlot, event: &WorldEvent)
+    requires { is_some (refusal_of slot.old.world event.now) ≡ false }
+    ensures world { slot.new.world ≡ after_event slot.old.world event.now }
+    ensures plan { slot.new.plan ≡ slot.old.plan }
+{
+    let _ = slot.world(event);
 }

@@ -5,8 +5,8 @@ ghost use Rattle.std.specs.Option.{option_copied};
 ghost use Rattle.card_model.specs.Slot as slots;
 ghost use Rattle.rules.specs.Rules as rules;
 
+use crate::card::card_inside;
 use card_model::{Fault, World};
-use planner::card_inside;
 use report::Line;
 use rules::{Kept, Turn};
 use script::Script;

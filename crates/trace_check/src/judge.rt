@@ -7,6 +7,7 @@ ghost use Rattle.trace_check.specs.Judging as spec;
 
 use crate::answers::{are_answers_given, has_right_answer};
 use crate::behind::{Behind, Bench};
+use crate::card::card_inside;
 use crate::channels::are_channels_right;
 use crate::edits::{has_right_done, is_lost_update_right, is_update_right, update_before};
 use crate::exchanging::{is_answered_with, lose};
@@ -17,7 +18,7 @@ use crate::snapshots::has_right_snapshot;
 use crate::turns::{has_right_place, is_turn_right};
 use crate::verifications::has_right_verify;
 use apdu::{Command, Memory, Response};
-use planner::{card_inside, is_finished};
+use planner::is_finished;
 use report::Line;
 
 /// The number of the rule of responses.
@@ -226,7 +227,6 @@ impl Bench<'_> {
     }
 
     /// The lowest rule that is broken at a line; where none is, what stands behind it.
-    #[tactic(auto, using(crate::proofs::Sent::tested_follow, crate::proofs::Sent::tested_follows))]
     pub fn judge(&self, behind: &mut Behind, line: &Line) -> Result<Option<u8>, Memory>
         requires rules { keeps_rules self.now.script.now ≡ true }
         requires ready { spec.IsReady behind.old }
@@ -238,11 +238,13 @@ impl Bench<'_> {
         if !behind.has_room() {
             return Err(Memory);
         }
-        let broken = self.test(behind, line)?;
-        if broken.is_none() {
-            self.follow(line, behind)?;
+        match self.test(behind, line)? {
+            Some(rule) => Ok(Some(rule)),
+            None => {
+                self.follow(line, behind)?;
+                Ok(None)
+            }
         }
-        Ok(broken)
     }
 
     /// The lowest rule that is broken at the end of the report.

@@ -13,6 +13,7 @@ mod displays;
 mod edits;
 mod exchanging;
 mod faults;
+mod holdings;
 mod judge;
 mod lowest;
 mod plans;

@@ -2,6 +2,7 @@
 ghost use Rattle.std.specs.Prelude.{◌≡◌, ◌≤◌, length, true};
 ghost use Rattle.planner.specs.Room.{turn_fits};
 ghost use Rattle.apdu.specs.Words.{has_value};
+ghost use Rattle.rules.specs.Kept.{job_of};
 ghost use Rattle.rules.specs.Rules as rules;
 ghost use Rattle.trace_check.specs.Judging.{seen_state};
 
@@ -11,11 +12,11 @@ use crate::same::{is_command, is_number, same_event};
 use apdu::Command;
 use card_model::{World, WorldEvent};
 use planner::{
-    answered_of, begun_of, due_command, due_event, due_publication, has_operations_left, is_finished,
+    begun_of, due_command, due_event, due_publication, has_operations_left, is_finished,
     is_reset_due, waits_on,
 };
 use report::{Answer, Line, Mode};
-use rules::{Kept, Turn};
+use rules::{Jobs, Kept, Turn};
 use script::Script;
 
 /// Whose turn comes behind so many turns: the schedule's, and then round from the framework to the last actor.
@@ -85,6 +86,16 @@ fn is_mark_right(script: &Script, mode: Mode, world: &World, kept: &Kept, actor:
     !is_finished(script, kept)
         && is_actor_right(script, mode, actor, kept)
         && is_turn_right(mode, world, kept)
+}
+
+/// How many operations of an actor are answered.
+fn answered_of(actor: u8, jobs: &Jobs) -> u32
+    ensures { result ≡ (job_of actor jobs.now).answered }
+{
+    match jobs.get(actor as usize) {
+        None => 0,
+        Some(job) => job.answered,
+    }
 }
 
 /// Operations begin in order, one at a time, directly behind the mark, and where they do not wait.

@@ -1,11 +1,13 @@
 // The rule of verifications: each VERIFY stands in the lines of a verify operation, at most one in each, and is its command.
 ghost use Rattle.std.specs.Prelude.{◌≡◌};
 ghost use Rattle.std.specs.Option.{option_copied};
+ghost use Rattle.apdu.specs.Apdu.{same_command as same_commands};
 ghost use Rattle.rules.specs.Rules as rules;
+ghost use Rattle.rules.specs.Sessions.{verify_command};
 
+use crate::same::same_bytes;
 use apdu::Command;
-use link::same_command;
-use planner::{begun_of, operation_now, verify_command};
+use planner::{begun_of, operation_now};
 use report::Line;
 use rules::{Begun, Kept};
 use script::{Operation, Script};
@@ -40,11 +42,23 @@ fn has_verified(begun: Option<&Begun>) -> bool
     }
 }
 
+/// Whether the command is VERIFY PIN of this key and PIN, ETSI TS 102 221 clause 11.1.9.
+fn is_verify(command: &Command, key: u8, pin: &[u8; 8]) -> bool
+    ensures { result ≡ same_commands command.now (verify_command key pin.now) }
+{
+    command.class == 0
+        && command.ins == VERIFY
+        && command.p1 == 0
+        && command.p2 == key
+        && same_bytes(command.body.as_slice(), pin)
+        && command.le.is_none()
+}
+
 fn is_verify_of(operation: Option<&Operation>, command: &Command) -> bool
     ensures { result ≡ rules.is_verify_of (option_copied operation.entry) command.now }
 {
     match operation {
-        Some(Operation::Verify { key, pin }) => same_command(command, &verify_command(*key, pin)),
+        Some(Operation::Verify { key, pin }) => is_verify(command, *key, pin),
         _ => false,
     }
 }
