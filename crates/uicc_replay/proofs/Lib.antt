@@ -1,6 +1,8 @@
+pub mod Counting
 pub mod Marks
 pub mod Left
 pub mod Rounds
+pub mod Said
 pub mod Taken
 pub mod Turns
 pub mod Ends

@@ -1,6 +1,7 @@
-//! Replays a script of a card and its users through the framework, and writes the report.
+//! Replays a script of a card and its users through the framework, and writes the report; and checks reports.
 #![tactic(auto)]
 
+mod check;
 mod replay;
 mod text;
 mod top;
