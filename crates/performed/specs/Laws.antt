@@ -8,12 +8,8 @@ use Rattle.report.specs.declared.line.Mode.{Mode}
 use Rattle.report.specs.declared.line.Line.{Line}
 use Rattle.report.specs.declared.line.Line.TheVariants as line
 use Rattle.report.specs.declared.lines.Report.{Report}
-use Rattle.adn.specs.declared.edit.RowUpdate.{RowUpdate}
-use Rattle.families.specs.Plans.{plan_updates}
-use Rattle.editor.specs.declared.editing.Attempt.{Attempt}
 use Rattle.watchers.specs.declared.mailbox.Mailbox.{Mailbox}
 use Rattle.rules.specs.declared.holdings.Handle.{Handle}
-use Rattle.rules.specs.declared.kept.Begun.{Begun}
 use Rattle.rules.specs.declared.kept.Job.{Job}
 use Rattle.rules.specs.declared.kept.Kept.{Kept}
 use Rattle.rules.specs.History.{ends_epoch}
@@ -135,42 +131,27 @@ pub record AreCounted (n : ℕ) (k : Kept) : Type 0 where
 abbrev pub KeepsCounts : Type 0
 KeepsCounts = (s : Script) (lines : List Line) → AreCounted (length lines) (kept_of s lines)
 
--- the bytes of an update fit into a command
-abbrev pub is_short : RowUpdate → Bool
-is_short u = nat_le (length u.bytes) 255
-
--- those of all its updates do, and no more of them were sent than there were events
-abbrev pub IsShortPlan : ℕ → Option Attempt → Type 0
-IsShortPlan events None = Unit {0}
-IsShortPlan events (Some a) = (list_all is_short (plan_updates a.plan) ≡ true) × (a.sent ≤ events)
-
-abbrev pub HasShortPlan : ℕ → Option Begun → Type 0
-HasShortPlan events None = Unit {0}
-HasShortPlan events (Some b) = IsShortPlan events b.editing.attempt
-
 -- a mailbox dropped at most so many notices
 abbrev pub DropsAtMost : ℕ → Option Mailbox → Type 0
 DropsAtMost n None = Unit {0}
 DropsAtMost n (Some m) = m.dropped ≤ n
 
--- an actor of a script plans updates that fit into commands, dropped no more notices than there were publications, and has
--- answered at most its operations
-pub record IsPlainJob (events publications : ℕ) (job : Job) : Type 0 where
+-- an actor dropped no more notices than there were publications, and has answered at most 1000 operations
+pub record IsPlainJob (publications : ℕ) (job : Job) : Type 0 where
   pub answered : job.answered ≤ 1000
-  pub updates : HasShortPlan events job.begun
   pub mailbox : DropsAtMost publications job.mailbox
 
-abbrev pub ArePlainJobs : ℕ → ℕ → List Job → Type 0
-ArePlainJobs events publications [] = Unit {0}
-ArePlainJobs events publications (job ∷ jobs) = IsPlainJob events publications job × ArePlainJobs events publications jobs
+abbrev pub ArePlainJobs : ℕ → List Job → Type 0
+ArePlainJobs publications [] = Unit {0}
+ArePlainJobs publications (job ∷ jobs) = IsPlainJob publications job × ArePlainJobs publications jobs
 
 -- the number of a channel that it holds is that of a logical channel beside the basic one, ETSI TS 102 221 clause 8.7
 abbrev pub is_channel : Handle → Bool
 is_channel h = nat_le 1 h.number && nat_le h.number 19
 
 pub record IsPlain (k : Kept) : Type 0 where
-  pub jobs : ArePlainJobs k.history.events k.publications k.jobs
+  pub jobs : ArePlainJobs k.publications k.jobs
   pub handles : list_all is_channel k.handles ≡ true
 
 abbrev pub StaysPlain : Type 0
-StaysPlain = (s : Script) (lines : List Line) → keeps_rules s ≡ true → has_utf8_names s ≡ true → are_followed s lines ≡ true → IsPlain (kept_of s lines)
+StaysPlain = (s : Script) (lines : List Line) → keeps_rules s ≡ true → are_followed s lines ≡ true → IsPlain (kept_of s lines)
