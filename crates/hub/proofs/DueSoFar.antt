@@ -1,8 +1,6 @@
 -- The lines of a hub that is whole are due so far.
 use Rattle.std.proofs.Common.{◌≡◌, Bool, true, subst}
 use Rattle.std.proofs.lemmas.Option.{IfSome_then}
-use Rattle.card_model.specs.declared.world.World.{World}
-use Rattle.card_model.specs.Slot.{Plan}
 use Rattle.rules.specs.declared.kept.Kept.{Kept}
 use Rattle.rules.specs.Due.{due}
 use Rattle.rules.specs.Performed.{ends_turn}
@@ -17,6 +15,7 @@ value_of p whole = record { script = p.script; lines = p.lines.lines; world = p.
 
 pub due_so_far : (p : Parts) (whole : Bool) → IsSettled p → IsDueSoFar (value_of p whole)
 due_so_far p whole h = record {
+  served = h.tied.lines.served;
   followed = h.tied.lines.followed;
   ends = subst (λ (k : Kept). ends_turn (due p.script k) ≡ true) h.tied.kept h.ends;
   told = IfSome_then p.world {P = IsWorldOf p.script p.lines.lines} {Q = λ world. are_told p.script p.lines.lines ≡ true} h.tied.lines.world (λ world w. w.told);

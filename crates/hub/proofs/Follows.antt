@@ -63,10 +63,12 @@ module _ (s : Script) (k : Kept) (a : ℕ) (turn : k.turn.actor ≡ Some a) wher
   pub answer_follows : (i : ℕ) (given : Answer) → is_begun_at i (begun_of a k.jobs) ≡ true → is_given_or_refused given (due s k) ≡ true → is_followed s k (line.Answered a i given) ≡ true
   answer_follows i given b g = both _ _ (of_turn k.turn a turn) (both _ _ b g)
 
-pub end_follows : (s : Script) (k : Kept) (e n : ℕ) → due s k ≡ tell_end e n → is_followed s k (line.EpochEnd (k.publications + 1) e n) ≡ true
-end_follows s k e n h =
-    subst (λ (x : Due). follows s k x (line.EpochEnd (k.publications + 1) e n) ≡ true) (sym h)
-    (both _ _ (both _ _ (eq-eqb (k.publications + 1) (k.publications + 1) refl) (eq-eqb e e refl)) (eq-eqb n n refl))
+-- `kk` is the same as what is kept
+pub end_follows : (s : Script) (k kk : Kept) (e n : ℕ) → kk ≡ k → due s k ≡ tell_end e n → is_followed s k (line.EpochEnd (kk.publications + 1) e n) ≡ true
+end_follows s k kk e n same h =
+    subst (λ (z : Kept). is_followed s k (line.EpochEnd (z.publications + 1) e n) ≡ true) (sym same)
+    (subst (λ (x : Due). follows s k x (line.EpochEnd (k.publications + 1) e n) ≡ true) (sym h)
+    (both _ _ (both _ _ (eq-eqb (k.publications + 1) (k.publications + 1) refl) (eq-eqb e e refl)) (eq-eqb n n refl)))
 
 pub refusal_follows : (s : Script) (k : Kept) (f n : ℕ) → k.turn.actor ≡ Some 0 → due s k ≡ tell_refusal f n → is_followed s k (line.Refused f n) ≡ true
 refusal_follows s k f n turn h =

@@ -1,5 +1,5 @@
 -- The answer that is due: to an operation that has begun, and of few bytes.
-use Rattle.std.proofs.Common.{◌≡◌, ◌≤◌, ◌<◌, ◌∙◌, ℕ, Bool, true, false, if◌then◌else◌, Option, Some, None, is_some, option_map, refl, sym, subst, true≢false, lit≤}
+use Rattle.std.proofs.Common.{◌≡◌, ◌≤◌, ◌<◌, ◌∙◌, ℕ, Bool, true, false, if◌then◌else◌, [], Option, Some, None, is_some, option_map, refl, sym, subst, true≢false, lit≤}
 use Rattle.apdu.specs.Values.{CommandValue}
 use Rattle.apdu.specs.Words.{or_else}
 use Rattle.card_model.specs.declared.world.WorldEvent.{WorldEvent}
@@ -17,12 +17,24 @@ use Rattle.rules.specs.declared.kept.Kept.{Kept}
 use Rattle.rules.specs.declared.kept.Outcome.{Outcome}
 use Rattle.rules.specs.declared.kept.Outcome.TheVariants as outcome
 use Rattle.rules.specs.Kept.{begun_of, job_of, operation_now}
-use Rattle.rules.specs.Due.{answer_of, answer_of_outcome, is_lost, answer_of_actor, answer_of_begun, due, due_answer, due_by_command, due_by_end, due_by_event, due_by_reset, due_command, is_reset_due, loaded, on_handle, outcome_answer, raw_on_handle, seen_now, tried_event, with_card, with_ended}
+use Rattle.rules.specs.Due.{done_publication, edit_answer, plan_refusal, planning_answer, answer_of, answer_of_outcome, is_lost, answer_of_actor, answer_of_begun, due, due_answer, due_by_command, due_by_end, due_by_event, due_by_reset, due_command, is_reset_due, loaded, on_handle, outcome_answer, raw_on_handle, seen_now, tried_event, with_card, with_ended}
 use Rattle.performed.specs.Served.{is_served, serves}
 use Rattle.performed.proofs.CalmSends.{ServedOp, served_now}
 use Rattle.performed.proofs.TurnsSays.{says_of}
 use Rattle.rules.specs.Channels.{handle_of, is_raw_ins}
 use Rattle.rules.specs.Sessions.{has_session}
+use Rattle.rules.specs.Watching.{notices_of}
+use Rattle.watchers.specs.declared.mailbox.Mailbox.{Mailbox}
+use Rattle.adn.specs.declared.edit.PlanError.{PlanError}
+use Rattle.adn.specs.declared.edit.PlanError.TheVariants as plan_error
+use Rattle.editor.specs.declared.editing.Decided.{Decided}
+use Rattle.editor.specs.Editing.{left_rows}
+use Rattle.rules.specs.declared.kept.Turn.{Turn}
+use Rattle.rules.specs.declared.kept.Work.{Work}
+use Rattle.rules.specs.declared.kept.Work.TheVariants.{Rests as rests, Refuses as refuses, Lacks as lacks, Sends as sends, Reads as reads, Writes as writes, Resets as resets, Happens as happens}
+use Rattle.hub.specs.Short.{are_short, is_short_begun, is_short_editing}
+use Rattle.hub.proofs.FewRows.{short_done}
+use Rattle.hub.proofs.Turning.{begun_short_at}
 use Rattle.hub.specs.Performing.{is_holding}
 use Rattle.hub.specs.Settled.{IsSince}
 
@@ -68,6 +80,28 @@ record IsGiven (came : Bool) (x : Answer) : Type 0 where
 Given : Bool → Option Answer → Type 0
 Given came None = Unit {0}
 Given came (Some x) = IsGiven came x
+
+refusal_short : (e : PlanError) → most_of_answer (plan_refusal e) ≤ 608
+refusal_short (plan_error.BadFile width) = lit≤ tt
+refusal_short (plan_error.NoRecord at) = lit≤ tt
+refusal_short (plan_error.Full count) = lit≤ tt
+refusal_short (plan_error.NotWritable c) = lit≤ tt
+refusal_short (plan_error.NameTooLong need room) = lit≤ tt
+refusal_short (plan_error.BadDigit at) = lit≤ tt
+refusal_short (plan_error.NumberTooLong n) = lit≤ tt
+refusal_short (plan_error.ExtFull count) = lit≤ tt
+refusal_short plan_error.Memory = lit≤ tt
+
+refusal_holds : (e : PlanError) → is_holding (plan_refusal e) ≡ false
+refusal_holds (plan_error.BadFile width) = refl
+refusal_holds (plan_error.NoRecord at) = refl
+refusal_holds (plan_error.Full count) = refl
+refusal_holds (plan_error.NotWritable c) = refl
+refusal_holds (plan_error.NameTooLong need room) = refl
+refusal_holds (plan_error.BadDigit at) = refl
+refusal_holds (plan_error.NumberTooLong n) = refl
+refusal_holds (plan_error.ExtFull count) = refl
+refusal_holds plan_error.Memory = refl
 
 -- an answer that gives nothing to hold
 plain : (came : Bool) (x : Answer) → most_of_answer x ≤ 608 → is_holding x ≡ false → IsGiven came x
@@ -125,48 +159,82 @@ module _ (came : Bool) where
   session_given true key = plain came answer.Ended (lit≤ tt) refl
   session_given false key = plain came (answer.NotHeldKey key) (lit≤ tt) refl
 
+  notices_given : (m : Option Mailbox) → Given came (Some (notices_of m))
+  unfolding Given
+  notices_given None = plain came (answer.Notices 0 (record { items = [] })) (lit≤ tt) refl
+  notices_given (Some m) = plain came (answer.Notices m.dropped m.numbers) (lit≤ tt) refl
+
   moved_given : (happened : Bool) → Given came (if happened then Some answer.Moved else None)
   unfolding Given
   moved_given true = plain came answer.Moved (lit≤ tt) refl
   moved_given false = tt
 
+  planning_given : (w : Work) → Given came (planning_answer w)
+  unfolding Given
+  planning_given rests = tt
+  planning_given (refuses e) = plain came (plan_refusal e) (refusal_short e) (refusal_holds e)
+  planning_given (lacks key) = plain came (answer.NeedsPin key) (lit≤ tt) refl
+  planning_given (sends c) = tt
+  planning_given (reads path) = tt
+  planning_given writes = tt
+  planning_given resets = tt
+  planning_given (happens e) = tt
+
+  planned_given : (w : Work) (other : Option Answer) → Given came other → Given came (or_else other (planning_answer w))
+  unfolding Given
+  planned_given w None h = planning_given w
+  planned_given w (Some x) h = h
+
+  done_given : (b : Begun) (d : Decided) (o : Option (Option ℕ)) → most_of_answer (answer.Done d.event None (left_rows b.editing d)) ≤ 608 → Given came (option_map (λ publication. answer.Done d.event publication (left_rows b.editing d)) o)
+  unfolding Given
+  done_given b d None h = tt
+  done_given b d (Some n) h = plain came (answer.Done d.event n (left_rows b.editing d)) h refl
+
+  edit_given : (b : Begun) (t : Turn) (o : Option Decided) → Given came (outcome_answer t) → ((d : Decided) → most_of_answer (answer.Done d.event None (left_rows b.editing d)) ≤ 608) → Given came (edit_answer b t o)
+  unfolding Given
+  edit_given b t None h short = card_given b.epoch b (or_else (outcome_answer t) (planning_answer t.work)) (planned_given t.work (outcome_answer t) h)
+  edit_given b t (Some d) h short = done_given b d (done_publication b t) (short d)
+
 came : Kept → Bool
 came k = is_some k.turn.outcome
 
-operation_given : (k : Kept) (a : ℕ) (job : Job) (b : Begun) (op : Operation) → is_served op ≡ true → Given (came k) (answer_of k a job b op)
+operation_given : (n : ℕ) (k : Kept) (a : ℕ) (job : Job) (b : Begun) (op : Operation) → is_short_editing n b.editing ≡ true → is_served op ≡ true → Given (came k) (answer_of k a job b op)
 unfolding Given came
-operation_given k a job b (operation.Insert card) v = moved_given (came k) k.turn.happened
-operation_given k a job b operation.Out v = moved_given (came k) k.turn.happened
-operation_given k a job b (operation.Arm change) v = moved_given (came k) k.turn.happened
-operation_given k a job b (operation.Load f) v = card_given (came k) b.epoch b (or_else (loaded k.turn.published) (outcome_answer k.turn)) (loaded_given (came k) k.turn.published (outcome_answer k.turn) (outcome_given k.turn.outcome))
-operation_given k a job b (operation.OpenChannel handle aid) v = card_given (came k) b.epoch b (outcome_answer k.turn) (outcome_given k.turn.outcome)
-operation_given k a job b (operation.Raw handle apdu) v = raw_given (came k) handle (handle_of a handle k.handles) apdu.ins (outcome_answer k.turn) (outcome_given k.turn.outcome)
-operation_given k a job b (operation.Close handle) v = handle_given (came k) handle (handle_of a handle k.handles) (outcome_answer k.turn) (outcome_given k.turn.outcome)
-operation_given k a job b (operation.Verify key pin) v = card_given (came k) b.epoch b (outcome_answer k.turn) (outcome_given k.turn.outcome)
-operation_given k a job b operation.Poll v = card_given (came k) b.epoch b (outcome_answer k.turn) (outcome_given k.turn.outcome)
-operation_given k a job b (operation.End key) v = session_given (came k) (has_session a key k.sessions) key
-operation_given k a job b operation.Look v = plain (came k) (answer.Look (seen_now k)) (lit≤ tt) refl
-operation_given k a job b op v = absurd (true≢false (sym v))
+operation_given n k a job b (operation.Insert card) short v = moved_given (came k) k.turn.happened
+operation_given n k a job b operation.Out short v = moved_given (came k) k.turn.happened
+operation_given n k a job b (operation.Arm change) short v = moved_given (came k) k.turn.happened
+operation_given n k a job b (operation.Load f) short v = card_given (came k) b.epoch b (or_else (loaded k.turn.published) (outcome_answer k.turn)) (loaded_given (came k) k.turn.published (outcome_answer k.turn) (outcome_given k.turn.outcome))
+operation_given n k a job b (operation.OpenChannel handle aid) short v = card_given (came k) b.epoch b (outcome_answer k.turn) (outcome_given k.turn.outcome)
+operation_given n k a job b (operation.Raw handle apdu) short v = raw_given (came k) handle (handle_of a handle k.handles) apdu.ins (outcome_answer k.turn) (outcome_given k.turn.outcome)
+operation_given n k a job b (operation.Close handle) short v = handle_given (came k) handle (handle_of a handle k.handles) (outcome_answer k.turn) (outcome_given k.turn.outcome)
+operation_given n k a job b (operation.Verify key pin) short v = card_given (came k) b.epoch b (outcome_answer k.turn) (outcome_given k.turn.outcome)
+operation_given n k a job b operation.Poll short v = card_given (came k) b.epoch b (outcome_answer k.turn) (outcome_given k.turn.outcome)
+operation_given n k a job b (operation.End key) short v = session_given (came k) (has_session a key k.sessions) key
+operation_given n k a job b operation.Look short v = plain (came k) (answer.Look (seen_now k)) (lit≤ tt) refl
+operation_given n k a job b (operation.Set f at name number) short v = edit_given (came k) b k.turn b.editing.decided (outcome_given k.turn.outcome) (λ d. short_done n b.editing d short)
+operation_given n k a job b (operation.Clear f at) short v = edit_given (came k) b k.turn b.editing.decided (outcome_given k.turn.outcome) (λ d. short_done n b.editing d short)
+operation_given n k a job b (operation.Watch mask) short v = plain (came k) answer.Watching (lit≤ tt) refl
+operation_given n k a job b operation.Notices short v = notices_given (came k) job.mailbox
 
-begun_given : (k : Kept) (a : ℕ) (b : Option Begun) (op : Option Operation) → ServedOp op → Given (came k) (answer_of_begun k a b op)
+begun_given : (n : ℕ) (k : Kept) (a : ℕ) (b : Option Begun) (op : Option Operation) → is_short_begun n b ≡ true → ServedOp op → Given (came k) (answer_of_begun k a b op)
 unfolding Given
-begun_given k a (Some b) (Some op) v = operation_given k a (job_of a k.jobs) b op v
-begun_given k a (Some b) None v = tt
-begun_given k a None op v = tt
+begun_given n k a (Some b) (Some op) short v = operation_given n k a (job_of a k.jobs) b op short v
+begun_given n k a (Some b) None short v = tt
+begun_given n k a None op short v = tt
 
-actor_given : (s : Script) (k : Kept) (o : Option ℕ) → serves s ≡ true → Given (came k) (answer_of_actor s k o)
+actor_given : (n : ℕ) (s : Script) (k : Kept) (o : Option ℕ) → are_short n k.jobs ≡ true → serves s ≡ true → Given (came k) (answer_of_actor s k o)
 unfolding Given
-actor_given s k None v = tt
-actor_given s k (Some a) v = begun_given k a (begun_of a k.jobs) (operation_now s a k.jobs) (served_now s a k.jobs v)
+actor_given n s k None short v = tt
+actor_given n s k (Some a) short v = begun_given n k a (begun_of a k.jobs) (operation_now s a k.jobs) (begun_short_at n k.jobs a short) (served_now s a k.jobs v)
 
-due_given : (s : Script) (k : Kept) (x : Answer) → serves s ≡ true → due s k ≡ give x → IsGiven (came k) x
+due_given : (n : ℕ) (s : Script) (k : Kept) (x : Answer) → are_short n k.jobs ≡ true → serves s ≡ true → due s k ≡ give x → IsGiven (came k) x
 unfolding Given
-due_given s k x v h = let given : due_answer s k ≡ Some x = says_of s k (give x) h in subst (Given (came k)) given (actor_given s k k.turn.actor v)
+due_given n s k x short v h = let given : due_answer s k ≡ Some x = says_of s k (give x) h in subst (Given (came k)) given (actor_given n s k k.turn.actor short v)
 
-pub gives_short : (s : Script) (k : Kept) (x : Answer) → serves s ≡ true → due s k ≡ give x → most_of_answer x ≤ 608
-gives_short s k x v h = (due_given s k x v h).short
+pub gives_short : (n : ℕ) (s : Script) (k : Kept) (x : Answer) → are_short n k.jobs ≡ true → serves s ≡ true → due s k ≡ give x → most_of_answer x ≤ 608
+gives_short n s k x short v h = (due_given n s k x short v h).short
 
 -- behind an event of the turn, where it gives a channel or a session
-pub gives_behind : (s : Script) (k : Kept) (x : Answer) (events : ℕ) → serves s ≡ true → due s k ≡ give x → IsSince events k → is_holding x ≡ true → events < k.history.events
+pub gives_behind : (n : ℕ) (s : Script) (k : Kept) (x : Answer) (events : ℕ) → are_short n k.jobs ≡ true → serves s ≡ true → due s k ≡ give x → IsSince events k → is_holding x ≡ true → events < k.history.events
 unfolding came
-gives_behind s k x events v h t holds = t.came ((due_given s k x v h).holds holds)
+gives_behind n s k x events short v h t holds = t.came ((due_given n s k x short v h).holds holds)

@@ -146,7 +146,7 @@ job_at (job ∷ jobs) (suc i) b h = job_at jobs i b h
 
 has_left : (s : Script) (lines : List Line) (i : ℕ) (b : Begun) → serves s ≡ true → are_followed s lines ≡ true → begun_of i (kept_of s lines).jobs ≡ Some b → has_operations_left s (kept_of s lines) i ≡ true
 has_left s lines i b v f h =
-    let t = (keeps s lines v f).jobs i (job_of i (kept_of s lines).jobs) (job_at (kept_of s lines).jobs i b h) in
+    let t = (keeps s lines f).jobs i (job_of i (kept_of s lines).jobs) (job_at (kept_of s lines).jobs i b h) in
     lt-ltb _ _ (t.left (ap is_some h))
 
 idle_unbegun : (s : Script) (lines : List Line) (a : ℕ) (o : Option Begun) → serves s ≡ true → are_followed s lines ≡ true → begun_of (suc a) (kept_of s lines).jobs ≡ o → (not (has_operations_left s (kept_of s lines) (suc a)) || is_some (if is_some o then None else next_waits_on s (kept_of s lines) (suc a))) ≡ true → o ≡ None

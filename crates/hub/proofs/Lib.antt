@@ -1,6 +1,11 @@
+pub mod Texts
 pub mod Scripts
 pub mod Ties
 pub mod Played
+pub mod Edits
+pub mod FewRows
+pub mod Begins
+pub mod Left
 pub mod Follows
 pub mod Inside
 pub mod Lively
@@ -12,4 +17,5 @@ pub mod DueSoFar
 pub mod Idle
 pub mod Calm
 pub mod Steps
+pub mod Loop
 pub mod Taken

@@ -1,11 +1,13 @@
 -- What the slot's calls do where it tells its world and its plan.
-use Rattle.std.proofs.Common.{◌≡◌, ◌<◌, ◌&&◌, ◌||◌, ◌+◌, ◌-◌, ◌^◌, min, not, ℕ, Bool, true, false, if◌then◌else◌, List, Option, Some, None, IfSome, is_some, is_none, Ok, Err, refl, sym, ap, ◌∙◌, subst, true≢false, arith, eq-eqb}
+use Rattle.std.proofs.Common.{◌≡◌, ◌<◌, ◌&&◌, ◌+◌, ◌-◌, ◌^◌, min, not, ℕ, Bool, true, false, if◌then◌else◌, Option, Some, None, IfSome, is_some, is_none, is_err, Result, Ok, Err, refl, sym, ap, ◌∙◌, subst, true≢false, arith, eq-eqb}
 use Rattle.apdu.specs.Values.{CommandValue, ResponseValue}
 use Rattle.apdu.specs.Apdu.{same_response}
 use Rattle.card_model.specs.declared.slot.SlotFault.{SlotFault}
 use Rattle.card_model.specs.declared.world.Fault.{Fault}
+use Rattle.card_model.specs.declared.slot.WorldRefusal.{WorldRefusal}
 use Rattle.card_model.specs.declared.world.World.{World}
-use Rattle.card_model.specs.Slot.{Plan, PlannedExchange, StaysTold, ToldWith, Answers, Counts, ExchangesAsPlanned, acted_of, fails_at, fault_at, next_fault as fault_of_plan, one_more}
+use Rattle.card_model.specs.declared.world.WorldEvent.{WorldEvent}
+use Rattle.card_model.specs.Slot.{Plan, PlannedExchange, StaysTold, ToldWith, Answers, Counts, ExchangesAsPlanned, Happens, IsRefused, IsResultOf, Resets, ResetsAsPlanned, refusal_of, acted_of, fails_at, fault_at, next_fault as fault_of_plan, one_more}
 use Rattle.card_model.specs.Step.{card_inside, step}
 use Rattle.epoch_cache.specs.Past.{counted}
 use Rattle.script_reader.specs.declared.types.Script.{Script}
@@ -108,4 +110,60 @@ failed_played s k a c acted e w v p q told plan n tells tells_plan count planned
   tells_plan = tells_plan;
   shows = fails_show s k a c acted e w v p told plan n planned inside flag;
   counts = counts_call s k (line.Failed a c acted) p q refl plan n count;
+}
+
+-- ---- a reset, and one that failed
+
+reset_done : (s : Script) (k : Kept) (r : Result (Unit {0}) SlotFault) (b : Bool) (x : World) (v : Option World) (p : Option Plan) → is_some p ≡ true → IfSome p (IsPlanOf s k) → k.history.calls + 1 < 2 ^ 64 → ResetsAsPlanned p (Some x) v r → is_err r ≡ b → is_failing s x k ≡ b
+reset_done s k r b x v None told plan n h e = absurd (true≢false (sym told))
+reset_done s k r b x v (Some y) told plan n h e = fails_as s k y x b plan n (sym e ∙ h.fails)
+
+reset_shows : (s : Script) (k : Kept) (a : ℕ) (w v : Option World) (p : Option Plan) → ToldWith w p → IfSome p (IsPlanOf s k) → k.history.calls + 1 < 2 ^ 64 → ResetsAsPlanned {T = Unit {0}} p w v (Ok tt) → Resets w v → IfSome w (λ x. (v ≡ Some (world_after (line.Reset a) x)) × (is_told s x k (line.Reset a) ≡ true))
+reset_shows s k a None v p told plan n h g = tt
+reset_shows s k a (Some x) v p told plan n h g = (g.world, ap not (reset_done s k (Ok tt) false x v p (told refl) plan n h refl))
+
+pub reset_played : (s : Script) (k : Kept) (a : ℕ) (w v : Option World) (p q : Option Plan) → ToldWith w p → IfSome p (IsPlanOf s k) → k.history.calls + 1 < 2 ^ 64 → StaysTold w v → StaysTold p q → Counts p q → ResetsAsPlanned {T = Unit {0}} p w v (Ok tt) → Resets w v → IsPlayed s k (line.Reset a) w v p q
+reset_played s k a w v p q told plan n tells tells_plan count planned resets = record {
+  tells = tells;
+  tells_plan = tells_plan;
+  shows = reset_shows s k a w v p told plan n planned resets;
+  counts = counts_call s k (line.Reset a) p q refl plan n count;
+}
+
+reset_left : (e : SlotFault) (x : World) (v : Option World) (p : Option Plan) → is_some p ≡ true → ResetsAsPlanned {T = Unit {0}} p (Some x) v (Err e) → v ≡ Some x
+reset_left e x v None told h = absurd (true≢false (sym told))
+reset_left e x v (Some y) told h = h.left
+
+reset_failed_shows : (s : Script) (k : Kept) (a : ℕ) (e : SlotFault) (w v : Option World) (p : Option Plan) → ToldWith w p → IfSome p (IsPlanOf s k) → k.history.calls + 1 < 2 ^ 64 → ResetsAsPlanned {T = Unit {0}} p w v (Err e) → IfSome w (λ x. (v ≡ Some (world_after (line.ResetFailed a) x)) × (is_told s x k (line.ResetFailed a) ≡ true))
+reset_failed_shows s k a e None v p told plan n h = tt
+reset_failed_shows s k a e (Some x) v p told plan n h = (reset_left e x v p (told refl) h, reset_done s k (Err e) true x v p (told refl) plan n h refl)
+
+pub reset_failed_played : (s : Script) (k : Kept) (a : ℕ) (e : SlotFault) (w v : Option World) (p q : Option Plan) → ToldWith w p → IfSome p (IsPlanOf s k) → k.history.calls + 1 < 2 ^ 64 → StaysTold w v → StaysTold p q → Counts p q → ResetsAsPlanned {T = Unit {0}} p w v (Err e) → IsPlayed s k (line.ResetFailed a) w v p q
+reset_failed_played s k a e w v p q told plan n tells tells_plan count planned = record {
+  tells = tells;
+  tells_plan = tells_plan;
+  shows = reset_failed_shows s k a e w v p told plan n planned;
+  counts = counts_call s k (line.ResetFailed a) p q refl plan n count;
+}
+
+-- ---- an event of the world
+
+allowed : (o : Option WorldRefusal) → IsResultOf o (Ok tt) → is_none o ≡ true
+allowed None h = refl
+allowed (Some e) h = absurd (cc)
+
+event_shows : (s : Script) (k : Kept) (a : ℕ) (e : WorldEvent) (w v : Option World) → Happens w v e → IsRefused w e (Ok tt) → IfSome w (λ x. (v ≡ Some (world_after (line.World a e) x)) × (is_told s x k (line.World a e) ≡ true))
+event_shows s k a e None v h r = tt
+event_shows s k a e (Some x) v h r = (h, allowed (refusal_of x e) r)
+
+counts_same : (l : Line) (p q : Option Plan) → q ≡ p → is_call l ≡ false → IfSome p (λ x. q ≡ Some (record { faults = x.faults; calls = counted (is_call l) x.calls }))
+counts_same l None q e c = tt
+counts_same l (Some x) q e c = rw c e
+
+pub event_played : (s : Script) (k : Kept) (a : ℕ) (e : WorldEvent) (w v : Option World) (p q : Option Plan) → StaysTold w v → q ≡ p → Happens w v e → IsRefused w e (Ok tt) → IsPlayed s k (line.World a e) w v p q
+event_played s k a e w v p q tells same h r = record {
+  tells = tells;
+  tells_plan = ap is_some same;
+  shows = event_shows s k a e w v h r;
+  counts = counts_same (line.World a e) p q same refl;
 }

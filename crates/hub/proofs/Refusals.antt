@@ -28,7 +28,7 @@ use Rattle.hub.specs.Settled.{IsTied}
 OfFramework : Turn → Type 0
 OfFramework t = is_some t.refused ≡ true → t.actor ≡ Some 0
 
-same_actor : (o : Option ℕ) (a : ℕ) → same_number o (Some a) ≡ true → o ≡ Some a
+pub same_actor : (o : Option ℕ) (a : ℕ) → same_number o (Some a) ≡ true → o ≡ Some a
 same_actor None a h = absurd (true≢false (sym h))
 same_actor (Some b) a h = ap (λ (n : ℕ). Some n) (eqb-true b a h)
 

@@ -1,5 +1,5 @@
 -- What the rules of a script, and that it is served, say of it.
-use Rattle.std.proofs.Common.{◌≡◌, ◌≤◌, ◌<◌, ◌&&◌, ◌||◌, ◌⊎◌, inl, inr, eqb-true, ◌==◌, ℕ, zero, suc, Bool, true, false, nat_le, List, [], ◌∷◌, length, Option, Some, None, if◌then◌else◌, refl, sym, ap, subst, ◌∙◌, arith, le-leb, leb-true, true≢false, lit<}
+use Rattle.std.proofs.Common.{◌≡◌, ◌≤◌, ◌<◌, ◌&&◌, ◌||◌, ◌⊎◌, inl, inr, eqb-true, ◌==◌, ℕ, zero, suc, Bool, true, false, nat_le, List, ◌∷◌, length, Option, Some, None, if◌then◌else◌, refl, sym, subst, arith, le-leb, leb-true, true≢false}
 use Rattle.std.specs.List.{list_all}
 use Rattle.std.specs.Prelude.{option_and_then}
 use Rattle.std.proofs.lemmas.Bool.{and_parts}
@@ -16,20 +16,17 @@ use Rattle.report.specs.declared.line.Line.TheVariants as line
 use Rattle.rules.specs.declared.kept.Begun.{Begun}
 use Rattle.rules.specs.declared.kept.Job.{Job}
 use Rattle.rules.specs.declared.kept.Kept.{Kept}
-use Rattle.rules.specs.Kept.{begun_of, job_of, operation_at, operation_now}
+use Rattle.rules.specs.Kept.{begun_of, job_of, operation_now}
 use Rattle.rules.specs.After.{kept_of}
 use Rattle.epoch_cache.specs.Cache.{all_current}
 use Rattle.families.specs.Families.{family_paths}
-use Rattle.performed.proofs.TurnsSays.{says_of}
 use Rattle.tracker.specs.Held.{gives_holding}
 use Rattle.tracker.specs.Room.{operation_fits}
 use Rattle.report.specs.declared.answer.Answer.{Answer}
 use Rattle.report.specs.declared.answer.Answer.TheVariants as answer
 use Rattle.hub.specs.Performing.{is_holding}
-use Rattle.planner.specs.Room.{is_edit}
 use Rattle.performed.specs.Served.{serves}
 use Rattle.performed.specs.Followed.{is_slot_answer}
-use Rattle.performed.proofs.CalmSends.{ServedOp, served_at, served_now}
 use Rattle.performed.proofs.LegalScript.{IsPlain, family_known, is_family_or_none, plain_now}
 use Rattle.hub.specs.Ready.{family_by, family_next, family_ready, if_current}
 use Rattle.hub.specs.Parts.{Parts}
@@ -65,29 +62,8 @@ fits_op : (o : Option Operation) → IsPlain o → operation_fits o ≡ true
 fits_op (Some (operation.OpenChannel handle aid)) h = aid_fits handle aid (h.formed (operation.OpenChannel handle aid) refl)
 fits_op op h = refl
 
-edit_op : (o : Option Operation) → ServedOp o → is_edit o ≡ false
-edit_op None h = refl
-edit_op (Some (operation.Insert card)) h = refl
-edit_op (Some operation.Out) h = refl
-edit_op (Some (operation.Arm change)) h = refl
-edit_op (Some (operation.Load f)) h = refl
-edit_op (Some (operation.OpenChannel handle aid)) h = refl
-edit_op (Some (operation.Raw handle apdu)) h = refl
-edit_op (Some (operation.Close handle)) h = refl
-edit_op (Some (operation.Verify key pin)) h = refl
-edit_op (Some operation.Poll) h = refl
-edit_op (Some (operation.End key)) h = refl
-edit_op (Some operation.Look) h = refl
-edit_op (Some op) h = absurd (true≢false (sym h))
-
 pub fits_now : (s : Script) (a : ℕ) (jobs : List Job) → keeps_rules s ≡ true → serves s ≡ true → operation_fits (operation_now s a jobs) ≡ true
 fits_now s a jobs rules h = fits_op (operation_now s a jobs) (plain_now s rules h a jobs)
-
-pub no_edit_now : (s : Script) (a : ℕ) (jobs : List Job) → serves s ≡ true → is_edit (operation_now s a jobs) ≡ false
-no_edit_now s a jobs h = edit_op (operation_now s a jobs) (served_now s a jobs h)
-
-pub no_edit_at : (s : Script) (a i : ℕ) → serves s ≡ true → is_edit (operation_at s a i) ≡ false
-no_edit_at s a i h = edit_op (operation_at s a i) (served_at s a i h)
 
 -- ---- answers that give a channel or a session
 

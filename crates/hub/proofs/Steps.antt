@@ -28,7 +28,7 @@ use Rattle.performed.proofs.ProgressActors.{nobody}
 use Rattle.hub.specs.Hub.{AddsTurn}
 use Rattle.hub.specs.Parts.{Parts}
 use Rattle.hub.specs.Ready.{family_ready}
-use Rattle.hub.specs.Settled.{BreaksBehind, HasBroken, HasLine, HasOneMore, HasTurned, IsPrepared, IsReady, IsSettled, IsSince, IsTied, IsTurning, LeavesRoom, MayPublish, StaysWith, most_of_text}
+use Rattle.hub.specs.Settled.{BreaksBehind, HasBroken, HasLine, HasOneMore, HasTurned, IsNext, IsPrepared, IsReady, IsSettled, IsSince, IsTied, IsTurning, LeavesRoom, MayDo, MayPublish, StaysWith, most_of_text}
 use Rattle.hub.proofs.Calm.{publishes, was_ready}
 use Rattle.hub.proofs.Scripts.{known_some}
 use Rattle.hub.proofs.Turning.{came_on, less_text, ready_by, unless}
@@ -150,6 +150,13 @@ module _ (a : ℕ) (earlier : List Line) (text : Option (List ℕ)) (p q : Parts
   pub published_turning : is_some q.kept.turn.published ≡ true → LeavesRoom 0 (most_of_text text) p.lines.spare_bytes q.lines.spare_bytes → IsTurning a earlier None q
   published_turning published room = turning_on None (inr (inr published)) (room_left room)
 
+-- behind a line that was done
+pub done_turning : (a : ℕ) (earlier : List Line) (text next : Option (List ℕ)) (p q : Parts) (events : ℕ) → IsTurning a earlier text p → HasOneMore p q → events ≡ (kept_of p.script earlier).history.events → IsNext events text next p q → IsTurning a earlier next q
+done_turning a earlier text next p q events t m from (inl h) =
+    subst (λ (x : Option (List ℕ)). IsTurning a earlier x q) (sym h.0) (next_turning a earlier text p q t m events from h.1)
+done_turning a earlier text next p q events t m from (inr h) =
+    subst (λ (x : Option (List ℕ)). IsTurning a earlier x q) (sym h.0) (published_turning a earlier text p q t m h.1 h.2)
+
 -- ---- a publication
 
 text_same : (f : ℕ) (before k : Kept) (text : List ℕ) (o : Option ℕ) → o ≡ Some f → k.files ≡ before.files → Some text ≡ option_map (λ g. kept_text g before) o → text ≡ kept_text f k
@@ -204,6 +211,19 @@ module _ (a : ℕ) (earlier : List Line) (p : Parts) (f : ℕ) where
         event = λ e. absurd (cc);
         spare_bytes = omega arith;
       }
+
+pub may_do : (a : ℕ) (earlier : List Line) (p : Parts) (l : Due) (events : ℕ) (text : Option (List ℕ)) → events ≡ (kept_of p.script earlier).history.events → IsTurning a earlier text p → due p.script p.kept ≡ l → MayDo events l text p
+may_do a earlier p (publish f) events text from t h = may_publish a earlier p f events text from t h
+may_do a earlier p (tell_end x y) events text from t h = tt
+may_do a earlier p (send c) events text from t h = tt
+may_do a earlier p reset_card events text from t h = tt
+may_do a earlier p (try_event w) events text from t h = tt
+may_do a earlier p (tell_refusal f m) events text from t h = tt
+may_do a earlier p (give x) events text from t h = tt
+may_do a earlier p (begin i) events text from t h = tt
+may_do a earlier p (wait_for b) events text from t h = tt
+may_do a earlier p end_of_actor events text from t h = tt
+may_do a earlier p rest events text from t h = tt
 
 -- ---- how a turn begins and ends
 

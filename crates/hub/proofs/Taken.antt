@@ -1,21 +1,18 @@
 -- What callers have of a turn that was taken, and of a run that is finished.
-use Rattle.std.proofs.Common.{◌≡◌, ◌++◌, ℕ, not, Bool, true, false, List, [], ◌∷◌, Option, Some, None, IfSome, IsSome, refl, sym, ap, ◌∙◌, subst, true≢false}
+use Rattle.std.proofs.Common.{◌≡◌, ◌+◌, ◌++◌, length, ℕ, not, Bool, true, false, List, [], ◌∷◌, Option, Some, None, IfSome, IsSome, refl, sym, ap, ◌∙◌, subst, true≢false}
 use Rattle.std.proofs.lemmas.Bool.{and_parts}
 use Rattle.card_model.specs.declared.world.World.{World}
 use Rattle.card_model.specs.Slot.{Plan, StaysTold}
 use Rattle.script_reader.specs.declared.types.Script.{Script}
-use Rattle.script_reader.specs.declared.types.Operation.{Operation}
+use Rattle.script_reader.specs.Rules.{keeps_rules}
+use Rattle.script_reader.specs.World.{first_world}
 use Rattle.report.specs.declared.line.Line.{Line}
 use Rattle.report.specs.declared.line.Line.TheVariants as line
 use Rattle.report.specs.declared.line.Mode.{Mode}
-use Rattle.link.specs.declared.chain.Final.{Final}
-use Rattle.loader.specs.declared.reading.RefusedReading.{RefusedReading}
-use Rattle.rules.specs.declared.kept.Facts.{Facts}
-use Rattle.rules.specs.declared.kept.Job.{Job}
 use Rattle.rules.specs.declared.kept.Kept.{Kept}
-use Rattle.rules.specs.declared.kept.Turn.{Turn}
-use Rattle.rules.specs.After.{facts_of, is_mark, kept_after, kept_of, turn_exchanged}
+use Rattle.rules.specs.After.{is_mark, kept_of}
 use Rattle.rules.specs.Due.{due}
+use Rattle.rules.specs.Kept.{actor_count, nothing_kept}
 use Rattle.rules.specs.Legal.{legal}
 use Rattle.rules.specs.Performed.{ends_turn}
 use Rattle.rules.specs.Work.{is_finished, is_idle}
@@ -23,16 +20,16 @@ use Rattle.performed.specs.Served.{serves}
 use Rattle.performed.specs.Followed.{are_followed}
 use Rattle.performed.specs.Told.{are_told}
 use Rattle.performed.specs.Placed.{are_placed, is_turn_allowed}
-use Rattle.performed.specs.Laws.{RunIsLegal, has_no_mark}
+use Rattle.performed.specs.Laws.{MarksMove, RunIsLegal, TurnsMove, has_no_mark}
 use Rattle.performed.specs.Progress.{Moves}
-use Rattle.performed.proofs.ProgressMoves.{marks_move}
-use Rattle.performed.proofs.TurnsMove.{turns_move}
 use Rattle.hub.specs.Hub.{HubValue, IsAtRest, TakesTurn, kept_now}
 use Rattle.hub.specs.Parts.{Parts}
-use Rattle.hub.specs.Settled.{HasLine, HasTurned, IsSettled, IsWorldOf, KeepsAll}
+use Rattle.hub.specs.Settled.{AreServed, HasLine, HasTurned, IsPlanOf, IsSettled, IsWorldOf, KeepsAll}
+use Rattle.hub.specs.Short.{are_short}
+use Rattle.hub.proofs.Edits.{none_short}
 use Rattle.hub.proofs.Idle.{idle_settles}
 use Rattle.hub.proofs.Ties.{tied_kept}
-use Rattle.hub.proofs.Turning.{unmarked}
+use Rattle.hub.proofs.Turning.{line_filled, unmarked}
 
 -- what callers see of the parts
 abbrev pub seen : Parts → Bool → HubValue
@@ -55,34 +52,21 @@ rest_of p whole t = record {
 pub rest_now : (h : HubValue) (p : Parts) (whole : Bool) → seen p whole ≡ h → IsSettled p → IsAtRest h
 rest_now h p whole e t = subst IsAtRest e (rest_of p whole t)
 
--- ---- a turn is not without lines
+-- ---- a turn is not without lines, where the slot tells its world
 
-led_filled : (op : Option Operation) (job : Job) (held : List ℕ) (facts : Facts) (refused : Option RefusedReading) (t : Turn) (o : Option Final) → facts.answered ≡ o → (turn_exchanged op job held facts refused t).bare ≡ false
-led_filled op job held facts refused t None e = rw e refl
-led_filled op job held facts refused t (Some f) e = rw e refl
+told_of : (s : Script) (lines : List Line) (w : Option World) → IfSome w (IsWorldOf s lines) → IsSome w → are_told s lines ≡ true
+told_of s lines None t h = absurd (cc)
+told_of s lines (Some x) t h = t.told
 
-line_filled : (s : Script) (l : Line) (k : Kept) → is_mark l ≡ false → (kept_after s l k).turn.bare ≡ false
-line_filled s (line.Turn a) k m = absurd (true≢false m)
-line_filled s (line.Begin a i) k m = refl
-line_filled s (line.Exchange a c r) k m = led_filled _ _ _ (facts_of s (line.Exchange a c r) k) _ k.turn (facts_of s (line.Exchange a c r) k).answered refl
-line_filled s (line.Failed a c d) k m = refl
-line_filled s (line.Reset a) k m = refl
-line_filled s (line.ResetFailed a) k m = refl
-line_filled s (line.World a e) k m = refl
-line_filled s (line.Published n f e v text) k m = refl
-line_filled s (line.EpochEnd n e v) k m = refl
-line_filled s (line.Refused f n) k m = refl
-line_filled s (line.Answered a i given) k m = refl
-
-filled : (s : Script) (earlier added : List Line) (a : ℕ) → serves s ≡ true → are_followed s (added ++ line.Turn a ∷ earlier) ≡ true → has_no_mark added ≡ true → is_idle s (kept_of s earlier) a ≡ false → ends_turn (due s (kept_of s (added ++ line.Turn a ∷ earlier))) ≡ true → (kept_of s (added ++ line.Turn a ∷ earlier)).turn.bare ≡ false
-filled s earlier [] a v f own awake e = absurd (true≢false (sym e ∙ marks_move s earlier a v f awake))
-filled s earlier (l ∷ added) a v f own awake e =
+filled : MarksMove → (s : Script) (earlier added : List Line) (a : ℕ) → keeps_rules s ≡ true → serves s ≡ true → are_followed s (added ++ line.Turn a ∷ earlier) ≡ true → are_told s earlier ≡ true → has_no_mark added ≡ true → is_idle s (kept_of s earlier) a ≡ false → ends_turn (due s (kept_of s (added ++ line.Turn a ∷ earlier))) ≡ true → (kept_of s (added ++ line.Turn a ∷ earlier)).turn.bare ≡ false
+filled law s earlier [] a r v f told own awake e = absurd (true≢false (sym e ∙ law s earlier a r v f told awake))
+filled law s earlier (l ∷ added) a r v f told own awake e =
     let q = and_parts (not (is_mark l)) (has_no_mark added) own in
     line_filled s l (kept_of s (added ++ line.Turn a ∷ earlier)) (unmarked (is_mark l) q.0)
 
 -- ---- a turn that was taken
 
-module _ (p r n : Parts) (a : ℕ) (settled : IsSettled p) (same : KeepsAll p r) (t : HasTurned a r n) (awake : is_idle p.script (kept_of p.script p.lines.lines) a ≡ false) where
+module _ (marks : MarksMove) (turns : TurnsMove) (p r n : Parts) (a : ℕ) (settled : IsSettled p) (same : KeepsAll p r) (t : HasTurned a r n) (awake : is_idle p.script (kept_of p.script p.lines.lines) a ≡ false) where
   script_is : n.script ≡ p.script
   script_is = t.stays.script ∙ same.script
 
@@ -101,6 +85,9 @@ module _ (p r n : Parts) (a : ℕ) (settled : IsSettled p) (same : KeepsAll p r)
   ends_then : ends_turn (due p.script (kept_of p.script (t.turn.added ++ line.Turn a ∷ p.lines.lines))) ≡ true
   ends_then = ap (λ (k : Kept). ends_turn (due p.script k)) (sym kept_is) ∙ ap (λ (s : Script). ends_turn (due s (kept_of n.script n.lines.lines))) (sym script_is) ∙ ends_now
 
+  told_before : IsSome p.world → are_told p.script p.lines.lines ≡ true
+  told_before told = told_of p.script p.lines.lines p.world settled.tied.lines.world told
+
   pub takes_turn : TakesTurn a (seen p true) (seen n true)
   takes_turn = record {
     stays = record {
@@ -110,16 +97,16 @@ module _ (p r n : Parts) (a : ℕ) (settled : IsSettled p) (same : KeepsAll p r)
     };
     turn = record { added = t.turn.added; lines = lines_are; own = t.turn.own };
     rest = record { rules = t.settled.tied.lines.rules; served = t.settled.tied.lines.served; followed = t.settled.tied.lines.followed; ends = ends_now };
-    filled = ap (λ (k : Kept). k.turn.bare) kept_is ∙ filled p.script p.lines.lines t.turn.added a settled.tied.lines.served follow t.turn.own awake ends_then;
-    moves = subst (λ (k : Kept). Moves p.script (kept_of p.script p.lines.lines) k) (sym kept_is) (turns_move p.script p.lines.lines t.turn.added a settled.tied.lines.served follow t.turn.own awake ends_then);
+    filled = λ told. ap (λ (k : Kept). k.turn.bare) kept_is ∙ filled marks p.script p.lines.lines t.turn.added a settled.tied.lines.rules settled.tied.lines.served follow (told_before told) t.turn.own awake ends_then;
+    moves = λ told. subst (λ (k : Kept). Moves p.script (kept_of p.script p.lines.lines) k) (sym kept_is) (turns p.script p.lines.lines t.turn.added a settled.tied.lines.rules settled.tied.lines.served follow (told_before told) t.turn.own awake ends_then);
     whole = refl;
   }
 
 -- the same where callers see this before it
-pub takes_turn_of : (h : HubValue) (p r n : Parts) (a : ℕ) → seen p true ≡ h → IsSettled p → KeepsAll p r → HasTurned a r n → is_idle h.script (kept_now h) a ≡ false → TakesTurn a h (seen n true)
-takes_turn_of h p r n a e settled same t awake =
+pub takes_turn_of : MarksMove → TurnsMove → (h : HubValue) (p r n : Parts) (a : ℕ) → seen p true ≡ h → IsSettled p → KeepsAll p r → HasTurned a r n → is_idle h.script (kept_now h) a ≡ false → TakesTurn a h (seen n true)
+takes_turn_of marks turns h p r n a e settled same t awake =
     subst (λ (x : HubValue). TakesTurn a x (seen n true)) e
-    (takes_turn p r n a settled same t (ap (λ (x : HubValue). is_idle x.script (kept_now x) a) e ∙ awake))
+    (takes_turn marks turns p r n a settled same t (ap (λ (x : HubValue). is_idle x.script (kept_now x) a) e ∙ awake))
 
 -- ---- a mark without lines
 
@@ -130,10 +117,6 @@ idle_settles_of h p r n a whole e settled same t pending idle =
     (ap (λ (s : Script). is_idle s r.kept a) same.script ∙ ap (λ (k : Kept). is_idle p.script k a) (same.kept ∙ settled.tied.kept) ∙ ap (λ (x : HubValue). is_idle x.script (kept_now x) a) e ∙ idle)
 
 -- ---- the end
-
-told_of : (s : Script) (lines : List Line) (w : Option World) → IfSome w (IsWorldOf s lines) → IsSome w → are_told s lines ≡ true
-told_of s lines None t h = absurd (cc)
-told_of s lines (Some x) t h = t.told
 
 pub report_legal : RunIsLegal → (h : HubValue) (p : Parts) (m : Mode) (lines : List Line) (whole : Bool) → seen p whole ≡ h → IsSettled p → lines ≡ p.lines.lines → is_finished h.script (kept_now h) ≡ true → are_placed h.script m h.lines ≡ true → is_turn_allowed m (kept_now h).turn ≡ true → IsSome h.world → legal (record { script = p.script; mode = m; lines = lines }) ≡ true
 report_legal law h p m lines whole e settled same finished placed allowed told =
@@ -148,3 +131,29 @@ report_legal law h p m lines whole e settled same finished placed allowed told =
 
 pub whole_seen : (p : Parts) (whole : Bool) (h : HubValue) → whole ≡ true → seen p whole ≡ h → seen p true ≡ h
 whole_seen p whole h w e = ap (seen p) (sym w) ∙ e
+
+-- ---- before the first line
+
+first_world_of : (s : Script) (w : Option World) → IfSome w (λ x. x ≡ first_world s) → IfSome w (IsWorldOf s [])
+first_world_of s None h = tt
+first_world_of s (Some x) h = record { world = h; told = refl }
+
+first_plan_of : (s : Script) (q : Option Plan) → IfSome q (λ x. x ≡ record { faults = s.faults; calls = 0 }) → IfSome q (IsPlanOf s (kept_of s []))
+first_plan_of s None h = tt
+first_plan_of s (Some x) h = record { faults = ap (λ (y : Plan). y.faults) h; calls = ap (λ (y : Plan). y.calls) h }
+
+pub first_settled : (p : Parts) → p.lines.lines ≡ [] → p.kept ≡ nothing_kept p.script → keeps_rules p.script ≡ true → serves p.script ≡ true → IfSome p.world (λ x. x ≡ first_world p.script) → IfSome p.plan (λ x. x ≡ record { faults = p.script.faults; calls = 0 }) → IsSettled p
+first_settled p lines kept rules served world plan = record {
+  tied = record {
+    kept = kept ∙ ap (kept_of p.script) (sym lines);
+    lines = subst (λ (x : List Line). AreServed p.script x p.world p.plan) (sym lines) (record {
+      rules = rules;
+      served = served;
+      followed = refl;
+      world = first_world_of p.script p.world world;
+      plan = first_plan_of p.script p.plan plan;
+    });
+    short = ap (λ (k : Kept). are_short (length p.lines.lines) k.jobs) kept ∙ none_short (length p.lines.lines) (actor_count p.script + 1);
+  };
+  ends = ap (λ (k : Kept). ends_turn (due p.script k)) kept;
+}

@@ -1,5 +1,5 @@
 -- One line more, in the parts of a hub.
-use Rattle.std.proofs.Common.{◌≡◌, ◌<◌, ◌≤◌, ◌+◌, arith, ℕ, Bool, true, false, List, [], ◌∷◌, Option, Some, None, IfSome, refl, sym, ap, ◌∙◌, subst}
+use Rattle.std.proofs.Common.{◌≡◌, ◌<◌, ◌≤◌, ◌+◌, arith, ℕ, suc, length, Bool, true, false, List, [], ◌∷◌, Option, Some, None, IfSome, refl, sym, ap, ◌∙◌, subst}
 use Rattle.std.proofs.lemmas.Bool.{false≢true}
 use Rattle.card_model.specs.declared.world.World.{World}
 use Rattle.card_model.specs.Slot.{Plan, StaysTold}
@@ -11,10 +11,13 @@ use Rattle.rules.specs.declared.kept.Kept.{Kept}
 use Rattle.rules.specs.History.{is_call, is_event}
 use Rattle.rules.specs.Due.{due}
 use Rattle.rules.specs.declared.due.Due.{Due}
-use Rattle.rules.specs.After.{is_mark, kept_after, kept_of}
-use Rattle.rules.specs.State.{world_after, world_of}
-use Rattle.performed.specs.Followed.{are_followed, is_followed}
-use Rattle.performed.specs.Told.{are_told, is_told}
+use Rattle.rules.specs.After.{decision_at, is_mark, kept_after, kept_of}
+use Rattle.planner.specs.Room.{is_new_attempt}
+use Rattle.hub.specs.Short.{are_short}
+use Rattle.hub.proofs.Edits.{has_row, short_after}
+use Rattle.rules.specs.State.{world_after}
+use Rattle.performed.specs.Followed.{is_followed}
+use Rattle.performed.specs.Told.{is_told}
 use Rattle.performed.proofs.TurnsKept.{goes_on}
 use Rattle.hub.specs.Parts.{Parts}
 use Rattle.hub.specs.Settled.{AreServed, BreaksBehind, HasLine, HasOneMore, KeepsAll, IsPlanOf, IsTied, IsWorldOf}
@@ -53,16 +56,20 @@ served_on s lines l w v p q a f g = record {
   plan = plan_on s lines l p q a.plan g.tells_plan g.counts;
 }
 
-pub has_line : (p : Parts) (room : LinesRoom) (k : Kept) (v : Option World) (q : Option Plan) (l : Line) → IsTied p → is_followed p.script p.kept l ≡ true → room.lines ≡ l ∷ p.lines.lines → room.spare + 1 ≡ p.lines.spare → k ≡ kept_after p.script l p.kept → IsPlayed p.script p.kept l p.world v p.plan q → HasLine l p (record { script = p.script; lines = room; kept = k; world = v; plan = q })
-has_line p room k v q l t f lines spare kept played = record {
+pub has_line : (p : Parts) (room : LinesRoom) (k : Kept) (v : Option World) (q : Option Plan) (l : Line) → IsTied p → is_followed p.script p.kept l ≡ true → room.lines ≡ l ∷ p.lines.lines → room.spare + 1 ≡ p.lines.spare → k ≡ kept_after p.script l p.kept → is_new_attempt (decision_at p.script l p.kept).attempt ≡ true → has_row l ≡ true → IsPlayed p.script p.kept l p.world v p.plan q → HasLine l p (record { script = p.script; lines = room; kept = k; world = v; plan = q })
+has_line p room k v q l t f lines spare kept new row played = record {
   stays = record { script = refl; world = played.tells; plan = played.tells_plan };
   tied = record {
     kept = kept ∙ ap (kept_after p.script l) t.kept ∙ sym (ap (kept_of p.script) lines);
     lines = subst (λ (x : List Line). AreServed p.script x v q) (sym lines) (served_on p.script p.lines.lines l p.world v p.plan q t.lines (subst (λ (x : Kept). is_followed p.script x l ≡ true) t.kept f) (subst (λ (x : Kept). IsPlayed p.script x l p.world v p.plan q) t.kept played));
+    short = ap (λ (x : List Line). are_short (length x) k.jobs) lines ∙ ap (λ (x : Kept). are_short (length (l ∷ p.lines.lines)) x.jobs) kept ∙ longer (short_after (length p.lines.lines) p.script l p.kept new row t.short);
   };
   lines = lines;
   spare = omega arith;
 }
+  where
+    longer : are_short (suc (length p.lines.lines)) (kept_after p.script l p.kept).jobs ≡ true → are_short (length (l ∷ p.lines.lines)) (kept_after p.script l p.kept).jobs ≡ true
+    longer h = h
 
 pub one_more : (p q : Parts) (l : Line) → HasLine l p q → is_mark l ≡ false → HasOneMore p q
 one_more p q l h own = record { line = l; has = h; own = own }
@@ -86,10 +93,10 @@ of_all None h = tt
 of_all (Some x) h = h x
 
 -- the same of a line that the slot has no part in
-pub one_quiet : (p : Parts) (room : LinesRoom) (k : Kept) (l : Line) → IsTied p → is_followed p.script p.kept l ≡ true → room.lines ≡ l ∷ p.lines.lines → room.spare + 1 ≡ p.lines.spare → k ≡ kept_after p.script l p.kept → ((x : World) → world_after l x ≡ x) → IfSome p.world (λ x. is_told p.script x p.kept l ≡ true) → is_call l ≡ false → is_mark l ≡ false → HasOneMore p (record { script = p.script; lines = room; kept = k; world = p.world; plan = p.plan })
-one_quiet p room k l t f lines spare kept same told call own =
+pub one_quiet : (p : Parts) (room : LinesRoom) (k : Kept) (l : Line) → IsTied p → is_followed p.script p.kept l ≡ true → room.lines ≡ l ∷ p.lines.lines → room.spare + 1 ≡ p.lines.spare → k ≡ kept_after p.script l p.kept → is_new_attempt (decision_at p.script l p.kept).attempt ≡ true → has_row l ≡ true → ((x : World) → world_after l x ≡ x) → IfSome p.world (λ x. is_told p.script x p.kept l ≡ true) → is_call l ≡ false → is_mark l ≡ false → HasOneMore p (record { script = p.script; lines = room; kept = k; world = p.world; plan = p.plan })
+one_quiet p room k l t f lines spare kept new row same told call own =
     one_more p (record { script = p.script; lines = room; kept = k; world = p.world; plan = p.plan }) l
-    (has_line p room k p.world p.plan l t f lines spare kept (quiet p.script p.kept l p.world p.plan same told call)) own
+    (has_line p room k p.world p.plan l t f lines spare kept new row (quiet p.script p.kept l p.world p.plan same told call)) own
 
 -- ---- where memory ran out behind an event
 
@@ -140,6 +147,7 @@ pub tied_kept : (p q : Parts) → KeepsAll p q → IsTied p → IsTied q
 tied_kept p q h t = record {
   kept = h.kept ∙ t.kept ∙ ap (λ (s : Script). kept_of s p.lines.lines) (sym h.script) ∙ ap (kept_of q.script) (sym h.lines);
   lines = served_kept p q h t.lines;
+  short = ap (λ (k : Kept). are_short (length q.lines.lines) k.jobs) h.kept ∙ ap (λ (x : List Line). are_short (length x) p.kept.jobs) h.lines ∙ t.short;
 }
 
 pub one_more_kept : (p r q : Parts) → KeepsAll p r → HasOneMore r q → HasOneMore p q

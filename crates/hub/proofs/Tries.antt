@@ -1,5 +1,5 @@
 -- An event that is due names one of the script's cards or changes, and is for an operation that has begun.
-use Rattle.std.proofs.Common.{◌≡◌, ◌≤◌, ◌&&◌, ◌==◌, ℕ, zero, suc, Bool, true, false, if◌then◌else◌, nat_lt, nat_le, List, [], ◌∷◌, length, slice_get, slice_set, unwrap_or, Option, Some, None, IfSome, is_some, Err, option_map, refl, sym, ap, ◌∙◌, subst, true≢false, arith, eq-eqb}
+use Rattle.std.proofs.Common.{◌≡◌, ◌≤◌, ◌&&◌, ◌==◌, ℕ, zero, suc, Bool, true, false, if◌then◌else◌, nat_lt, nat_le, List, [], ◌∷◌, length, slice_get, slice_set, unwrap_or, Option, Some, None, IfSome, is_some, Result, Ok, Err, option_map, refl, sym, ap, ◌∙◌, subst, true≢false, arith}
 use Rattle.std.specs.Prelude.{option_and_then}
 use Rattle.std.specs.List.{list_all}
 use Rattle.std.proofs.lemmas.List.{length-map}
@@ -44,14 +44,27 @@ use Rattle.rules.specs.declared.kept.Work.{Work}
 use Rattle.rules.specs.declared.kept.Work.TheVariants.{Rests as rests, Refuses as refuses, Lacks as lacks, Sends as sends, Reads as reads, Writes as writes, Resets as resets, Happens as happens}
 use Rattle.rules.specs.History.{lives_in}
 use Rattle.rules.specs.Standing.{first_stale}
-use Rattle.rules.specs.Kept.{begun_of, begun_operation, first_job, operation_at, operation_now}
-use Rattle.rules.specs.After.{decision_at, decision_of_begun, facts_of, fresh_begun, job_beside, kept_after, kept_of, opened_behind, own_job, stage_after, turn_exchanged}
+use Rattle.rules.specs.Kept.{begun_of, begun_operation, operation_at, operation_now}
+use Rattle.rules.specs.After.{decision_at, decision_of_begun, facts_of, fresh_begun, kept_after, kept_of, opened_behind, stage_after, turn_exchanged}
 use Rattle.rules.specs.Due.{answer_of_refusal, due, event_by_stage, event_of, slot_answer_by, tried_event}
 use Rattle.rules.specs.Rules.{same_answer}
 use Rattle.rules.specs.State.{world_after, world_of}
 use Rattle.rules.specs.Channels.{handle_of, is_raw_ins}
 use Rattle.rules.specs.Sessions.{verify_command}
-use Rattle.rules.specs.Work.{first_item, is_starting, living_handle, read_stale, reads_first, sends_close, sends_raw, status_command, work_of_operation}
+use Rattle.adn.specs.declared.edit.Edit.{Edit}
+use Rattle.adn.specs.declared.edit.Edit.TheVariants as edit
+use Rattle.adn.specs.declared.edit.Plan.{Plan}
+use Rattle.adn.specs.declared.edit.PlanError.{PlanError}
+use Rattle.families.specs.Families.{family_plan}
+use Rattle.families.specs.Plans.{plan_updates}
+use Rattle.editor.specs.declared.editing.Attempt.{Attempt}
+use Rattle.editor.specs.declared.editing.Decided.{Decided}
+use Rattle.editor.specs.declared.editing.Editing.{Editing}
+use Rattle.editor.specs.Editing.{edit_paths, next_update, owed_update, planned}
+use Rattle.epoch_cache.specs.Cache.{view_of_files}
+use Rattle.rules.specs.Editing.{first_lack}
+use Rattle.rules.specs.declared.kept.Decision.{Decision}
+use Rattle.rules.specs.Work.{attempts, begins_plan, decided_work, decides, edit_work, undecided_work, first_item, is_starting, living_handle, read_stale, reads_first, sends_close, sends_raw, status_command, work_of_operation}
 use Rattle.performed.specs.Served.{is_served, serves}
 use Rattle.performed.specs.Followed.{are_followed, is_followed}
 use Rattle.performed.specs.Measure.{calls_left, is_begun}
@@ -59,10 +72,9 @@ use Rattle.performed.specs.Told.{is_refusal_told}
 use Rattle.performed.proofs.CalmSends.{ServedOp, served_at, served_now}
 use Rattle.performed.proofs.MeasureBegun.{begun_beside_line, begun_exchange, same_turn}
 use Rattle.performed.proofs.MeasureShape.{falls}
-use Rattle.performed.proofs.ProgressBegins.{operation_there, starts}
+use Rattle.performed.proofs.ProgressBegins.{starts}
 use Rattle.performed.proofs.ProgressMarks.{same_work, seen_of}
-use Rattle.performed.proofs.TurnsJobs.{behind_job, job_behind}
-use Rattle.performed.proofs.TurnsLoad.{has_job}
+use Rattle.performed.proofs.JobPlaces.{begun_there, job_count}
 use Rattle.performed.proofs.TurnsSays.{says_of}
 use Rattle.hub.specs.Parts.{Parts}
 use Rattle.hub.specs.Settled.{IsTied, IsWorldOf}
@@ -161,6 +173,42 @@ unfolding work_fits
 close_fits s None = tt
 close_fits s (Some h) = tt
 
+-- an edit tries no event
+lack_fits : (s : Script) (o : Option ℕ) (attempt : Option Attempt) → work_fits s (let d : Decision = elim o [ Some key ↦ decides (lacks key) | None ↦ record { work = writes; attempt = attempt } ] in d).work
+unfolding work_fits
+lack_fits s None attempt = tt
+lack_fits s (Some key) attempt = tt
+
+plan_fits : (s : Script) (k : Kept) (a f : ℕ) (paths : List (List ℕ)) (r : Result Plan PlanError) → work_fits s (let d : Decision = elim r [ Err refusal ↦ decides (refuses refusal) | Ok plan ↦ begins_plan k a f plan paths ] in d).work
+unfolding work_fits
+plan_fits s k a f paths (Err refusal) = tt
+plan_fits s k a f paths (Ok plan) = lack_fits s (first_lack k.history a k.sessions k.files f (plan_updates plan)) (Some (planned f plan paths))
+
+writes_fit : (s : Script) (b : Bool) (other : Work) → work_fits s other → work_fits s (if b then writes else other)
+unfolding work_fits
+writes_fit s true other h = tt
+writes_fit s false other h = h
+
+attempt_fits : (s : Script) (k : Kept) (a f : ℕ) (e : Edit) (o : Option Attempt) (paths : List (List ℕ)) → work_fits s (attempts k a f e o paths).work
+unfolding work_fits
+attempt_fits s k a f e None paths = plan_fits s k a f paths (family_plan f e (view_of_files k.files))
+attempt_fits s k a f e (Some x) paths = writes_fit s (is_some (next_update x)) rests tt
+
+undecided_fits : (s : Script) (k : Kept) (a f : ℕ) (e : Edit) (x : Option Attempt) (o : Option (List ℕ)) → work_fits s (let d : Decision = elim o [ Some path ↦ decides (reads path) | None ↦ attempts k a f e x (edit_paths k.files f) ] in d).work
+unfolding work_fits
+undecided_fits s k a f e x None = attempt_fits s k a f e x (edit_paths k.files f)
+undecided_fits s k a f e x (Some path) = tt
+
+edit_by : (s : Script) (k : Kept) (a f : ℕ) (e : Edit) (editing : Editing) (o : Option Decided) → work_fits s (let d : Decision = elim o [ None ↦ undecided_work k a f e editing.attempt | Some x ↦ decides (decided_work k f editing) ] in d).work
+unfolding work_fits
+edit_by s k a f e editing None = undecided_fits s k a f e editing.attempt (first_missing k.files (edit_paths k.files f))
+edit_by s k a f e editing (Some d) = writes_fit s (is_some (owed_update true editing)) (reads_first k.files (family_paths f)) (missing_fits s (first_missing k.files (family_paths f)))
+
+edit_fits : (s : Script) (k : Kept) (a : ℕ) (b : Begun) (f : ℕ) (e : Edit) (lives : Bool) → work_fits s (let d : Decision = elim lives [ true ↦ edit_work k a f e b.editing | false ↦ decides rests ] in d).work
+unfolding work_fits
+edit_fits s k a b f e true = edit_by s k a f e b.editing b.editing.decided
+edit_fits s k a b f e false = tt
+
 operation_fits : (s : Script) (k : Kept) (a : ℕ) (b : Begun) (op : Operation) → is_served op ≡ true → has_target (length s.cards) (length s.changes) op ≡ true → work_fits s (work_of_operation k a b op).work
 unfolding work_fits fits
 operation_fits s k a b (operation.Insert card) v h = h
@@ -174,7 +222,10 @@ operation_fits s k a b (operation.Verify key pin) v h = if_fits s (lives_in k.hi
 operation_fits s k a b operation.Poll v h = if_fits s (lives_in k.history b.epoch) (sends status_command) tt
 operation_fits s k a b (operation.End key) v h = tt
 operation_fits s k a b operation.Look v h = tt
-operation_fits s k a b op v h = absurd (true≢false (sym v))
+operation_fits s k a b (operation.Set f at name number) v h = edit_fits s k a b f (edit.Set at (record { name = name; number = number })) (lives_in k.history b.epoch)
+operation_fits s k a b (operation.Clear f at) v h = edit_fits s k a b f (edit.Clear at) (lives_in k.history b.epoch)
+operation_fits s k a b (operation.Watch mask) v h = tt
+operation_fits s k a b operation.Notices v h = tt
 
 begun_fits : (s : Script) (k : Kept) (a : ℕ) (b : Option Begun) (op : Option Operation) → ServedOp op → ((x : Operation) → op ≡ Some x → has_target (length s.cards) (length s.changes) x ≡ true) → work_fits s (decision_of_begun k a b op).work
 unfolding work_fits
@@ -254,13 +305,6 @@ seen_some (Some b) p e h = refl
 over_none : {X : Type 0} (work : Work) (e : WorldEvent) → event_by_stage work over ≡ Some e → X
 over_none work e h = absurd (cc)
 
-begin_job : (s : Script) (k : Kept) (a i : ℕ) (o : Option Job) → slice_get k.jobs a ≡ o → is_some o ≡ true → is_some (begun_of a (kept_after s (line.Begin a i) k).jobs) ≡ true
-begin_job s k a i None h there = absurd (true≢false (sym there))
-begin_job s k a i (Some job) h there =
-    let at = job_behind s (line.Begin a i) k a ∙ ap (option_map (behind_job s (line.Begin a i) k a)) h in
-    ap (λ (o : Option Job). is_some (unwrap_or o first_job).begun) at
-    ∙ ap (λ (b : Bool). is_some (if b then own_job s (line.Begin a i) k (facts_of s (line.Begin a i) k) (decision_at s (line.Begin a i) k).attempt (job_beside (line.Begin a i) k.history.epoch (facts_of s (line.Begin a i) k) k.selected job) else job_beside (line.Begin a i) k.history.epoch (facts_of s (line.Begin a i) k) k.selected job).begun) (eq-eqb a a refl)
-
 line_tries : (s : Script) (earlier : List Line) (l : Line) → keeps_rules s ≡ true → serves s ≡ true → is_followed s (kept_of s earlier) l ≡ true → Tries s (kept_of s earlier) → Tries s (kept_of s (l ∷ earlier))
 line_tries s earlier (line.Turn zero) r v f t =
     let k : Kept = kept_of s earlier in
@@ -279,10 +323,9 @@ line_tries s earlier (line.Turn (suc a)) r v f t =
 line_tries s earlier (line.Begin a i) r v f t =
     let k : Kept = kept_of s earlier in
     let now = starts s k i a f in
-    let there = operation_there s k a i now in
     record {
       event = λ e h. event_fits s (decision_at s (line.Begin a i) k).work e (begun_fits s k a (Some (fresh_begun i k.history)) (operation_at s a i) (served_at s a i v) (λ x g. target_at s a i x r g)) (stage_event (decision_at s (line.Begin a i) k).work k.turn.stage e h);
-      begun = λ e h. ap (λ (o : Option ℕ). is_begun o (kept_after s (line.Begin a i) k).jobs) now.turn ∙ begin_job s k a i (slice_get k.jobs a) refl (has_job s earlier a i there);
+      begun = λ e h. ap (λ (o : Option ℕ). is_begun o (kept_after s (line.Begin a i) k).jobs) now.turn ∙ ap is_some (begun_there s k a i now (job_count s earlier));
     }
 line_tries s earlier (line.Exchange a c x) r v f t =
     let k : Kept = kept_of s earlier in

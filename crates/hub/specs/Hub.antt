@@ -1,5 +1,5 @@
 -- What callers see of a hub, and what a turn of an actor does.
-use Rattle.std.specs.Prelude.{◌≡◌, ◌<◌, ◌⊎◌, ℕ, ◌++◌, Bool, true, false, List, ◌∷◌, Option, Some, None}
+use Rattle.std.specs.Prelude.{◌≡◌, ◌<◌, ◌⊎◌, ℕ, ◌++◌, Bool, true, false, List, ◌∷◌, Option, Some, None, IsSome}
 use Rattle.card_model.specs.declared.world.World.{World}
 use Rattle.card_model.specs.Slot.{Plan, StaysTold}
 use Rattle.script_reader.specs.declared.types.Script.{Script}
@@ -58,13 +58,14 @@ pub record AddsTurn (a : ℕ) (old new : List Line) : Type 0 where
   pub lines : new ≡ added ++ line.Turn a ∷ old
   pub own : has_no_mark added ≡ true
 
--- a turn of the actor that moved: each of its lines was due, nothing more is due in it, and it is not without lines
+-- a turn of the actor that moved: each of its lines was due, and nothing more is due in it; where the slot tells its world, it is not without
+-- lines, and leaves less to do
 pub record TakesTurn (a : ℕ) (old new : HubValue) : Type 0 where
   pub stays : StaysOf old new
   pub turn : AddsTurn a old.lines new.lines
   pub rest : IsAtRest new
-  pub filled : (kept_now new).turn.bare ≡ false
-  pub moves : Moves old.script (kept_now old) (kept_now new)
+  pub filled : IsSome old.world → (kept_now new).turn.bare ≡ false
+  pub moves : IsSome old.world → Moves old.script (kept_now old) (kept_now new)
   pub whole : new.whole ≡ true
 
 -- a turn of the actor that broke off for want of memory, behind an event of its own

@@ -1,3 +1,5 @@
+pub mod Decided
+pub mod Short
 pub mod Hub
 pub mod DueSoFar
 pub mod Parts

@@ -1,18 +1,22 @@
 -- What ties the parts of a hub to its lines.
-use Rattle.std.specs.Prelude.{◌≡◌, ◌<◌, ◌≤◌, ◌⊎◌, ◌++◌, ℕ, ◌+◌, ◌*◌, ◌^◌, true, false, List, ◌∷◌, length, Option, Some, None, option_map, is_some, IfSome}
+use Rattle.std.specs.Prelude.{◌≡◌, ◌<◌, ◌≤◌, ◌⊎◌, ◌++◌, ℕ, ◌+◌, ◌*◌, ◌^◌, true, false, nat_lt, if◌then◌else◌, ⊤, List, ◌∷◌, length, Option, Some, None, option_map, is_some, IfSome}
 use Rattle.card_model.specs.declared.world.World.{World}
 use Rattle.card_model.specs.Slot.{Plan, StaysTold}
 use Rattle.script_reader.specs.declared.types.Script.{Script}
 use Rattle.script_reader.specs.Rules.{keeps_rules}
 use Rattle.report.specs.declared.line.Line.{Line}
 use Rattle.families.specs.Contents.{family_count}
+use Rattle.report.specs.declared.line.Line.TheVariants as line
 use Rattle.rules.specs.declared.kept.Kept.{Kept}
+use Rattle.rules.specs.Kept.{begun_of}
 use Rattle.rules.specs.After.{is_mark, kept_of}
+use Rattle.rules.specs.declared.due.Due.{Due}
+use Rattle.rules.specs.declared.due.Due.TheVariants.{Publish as publish}
 use Rattle.rules.specs.Due.{due, kept_text}
 use Rattle.rules.specs.Work.{is_idle}
 use Rattle.rules.specs.State.{world_of}
 use Rattle.rules.specs.Performed.{ends_turn}
-use Rattle.planner.specs.Room.{handles_fit, turn_fits, turn_is_decided}
+use Rattle.planner.specs.Room.{AreLeft, handles_fit, is_decided, turn_fits}
 use Rattle.tracker.specs.Room.{HasRoom}
 use Rattle.performed.specs.Served.{serves}
 use Rattle.performed.specs.Followed.{are_followed}
@@ -20,7 +24,10 @@ use Rattle.performed.specs.Told.{are_told}
 use Rattle.performed.specs.Laws.{has_no_mark}
 use Rattle.performed.specs.Measure.{steps_left}
 use Rattle.hub.specs.Hub.{AddsTurn}
+use Rattle.hub.specs.declared.engine.Ready.{Ready}
+use Rattle.hub.specs.Decided.{IsDecision, MayBegin}
 use Rattle.hub.specs.Parts.{Parts}
+use Rattle.hub.specs.Short.{are_short}
 use Rattle.hub.specs.Ready.{family_ready}
 
 -- the slot's world is that of the lines, which show what the slot gave
@@ -41,10 +48,11 @@ pub record AreServed (s : Script) (lines : List Line) (w : Option World) (p : Op
   pub world : IfSome w (IsWorldOf s lines)
   pub plan : IfSome p (IsPlanOf s (kept_of s lines))
 
--- so are the lines of the parts, and the tracker keeps what they say
+-- so are the lines of the parts, and the tracker keeps what they say; the edits that are under way are short
 pub record IsTied (p : Parts) : Type 0 where
   pub kept : p.kept ≡ kept_of p.script p.lines.lines
   pub lines : AreServed p.script p.lines.lines p.world p.plan
+  pub short : are_short (length p.lines.lines) p.kept.jobs ≡ true
 
 -- and nothing more is due
 pub record IsSettled (p : Parts) : Type 0 where
@@ -103,6 +111,14 @@ pub record IsPrepared (a : ℕ) (text : Option (List ℕ)) (p : Parts) : Type 0 
   pub spare : 98 ≤ p.lines.spare
   pub spare_bytes : 59008 + most_of_text text ≤ p.lines.spare_bytes
 
+-- all that a turn of the actor asks for before its first event
+pub record IsReadyFor (a : ℕ) (ready : Ready) (p : Parts) : Type 0 where
+  pub text : IsPrepared a ready.text p
+  pub mark : IsDecision p.script (line.Turn a) p.kept ready.mark
+  pub begin : MayBegin p.script p.kept a ready.begin
+  pub rows : AreLeft (begun_of a p.kept.jobs) ready.left.ready
+  pub decided : is_decided (begun_of a p.kept.jobs) ≡ true → is_some ready.left.ready ≡ true
+
 -- ---- within a turn
 
 -- the turn of the actor is under way, and there is room for its next line, beside a text
@@ -112,7 +128,6 @@ pub record IsUnderWay (a : ℕ) (p : Parts) : Type 0 where
   pub counts : HasRoom p.kept
   pub handles : handles_fit p.kept.handles ≡ true
   pub fits : turn_fits p.kept.turn.actor p.kept.jobs ≡ true
-  pub undecided : turn_is_decided p.kept.turn.actor p.kept.jobs ≡ false
   pub spare : 0 < p.lines.spare
   pub spare_bytes : 608 ≤ p.lines.spare_bytes
 
@@ -132,10 +147,26 @@ pub record MayPublish (events f : ℕ) (ready : Option (List ℕ)) (p : Parts) :
 abbrev pub LeavesRoom : ℕ → ℕ → ℕ → ℕ → Type 0
 LeavesRoom beside ready old new = (old + beside ≤ new + ready) ⊎ (59008 + beside ≤ new)
 
+-- where the line is a publication, it may be made
+abbrev pub MayDo : ℕ → Due → Option (List ℕ) → Parts → Type 0
+MayDo events (publish f) text p = MayPublish events f text p
+MayDo events l text p = ⊤
+
+-- what is ready for the line behind: the same text, unless an event came since there were so many, or none behind a publication
+abbrev pub IsNext : ℕ → Option (List ℕ) → Option (List ℕ) → Parts → Parts → Type 0
+IsNext events text next old new =
+    ((next ≡ (if nat_lt events new.kept.history.events then None else text)) × (old.lines.spare_bytes ≤ new.lines.spare_bytes + 608))
+    ⊎ ((next ≡ None) × (is_some new.kept.turn.published ≡ true) × LeavesRoom 0 (most_of_text text) old.lines.spare_bytes new.lines.spare_bytes)
+
 -- the text is what was made ready before the turn while no event of the turn came; it is used once
 abbrev pub IsReady : ℕ → Script → Kept → Kept → Option (List ℕ) → Type 0
 IsReady a s before k (Some text) = (k.history.events ≡ before.history.events) × (Some text ≡ option_map (λ f. kept_text f before) (family_ready s before a))
 IsReady a s before k None = (family_ready s before a ≡ None) ⊎ ((before.history.events < k.history.events) ⊎ (is_some k.turn.published ≡ true))
+
+-- the rows that the actor's edit leaves marked are ready, or an event came since there were so many
+pub record HasLeft (a events : ℕ) (ready : Option (List ℕ)) (k : Kept) : Type 0 where
+  pub rows : AreLeft (begun_of a k.jobs) ready
+  pub some : is_decided (begun_of a k.jobs) ≡ true → (is_some ready ≡ true) ⊎ (events < k.history.events)
 
 -- a turn of the actor is under way behind these lines, and has room for all that it can still add
 pub record IsTurning (a : ℕ) (earlier : List Line) (text : Option (List ℕ)) (p : Parts) : Type 0 where

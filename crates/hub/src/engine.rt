@@ -1,11 +1,13 @@
 // The parts of a hub.
 
 use adn::{Edit, Plan, PlanError};
-use apdu::Memory;
+use apdu::{Memory, Text};
 use content_tracker::ContentTracker;
 use epoch_cache::CachedFiles;
-use planner::EditPlans;
+use family_files::plan_of_family;
+use planner::{EditPlans, LeftRows};
 use report::ReservedLines;
+use rules::Decision;
 use script::Script;
 use std::alloc::Global;
 
@@ -28,18 +30,31 @@ pub struct Engine<S> {
     pub tracker: ContentTracker,
 }
 
-/// No plan of an edit: scripts with edits are not served yet.
+/// Plans edits for the files that are current.
 #[derive(Drop)]
-pub struct NoPlans;
+pub struct FilePlans;
 
-impl EditPlans for NoPlans {
+impl EditPlans for FilePlans {
     fn plan(
         &self,
-        _alloc: Global,
-        _family: u8,
-        _edit: &Edit,
-        _files: &CachedFiles,
+        alloc: Global,
+        family: u8,
+        edit: &Edit,
+        files: &CachedFiles,
     ) -> Result<Result<Plan, PlanError>, Memory> {
-        Err(Memory)
+        plan_of_family(alloc, family, edit, files)
     }
+}
+
+/// What is made ready before a turn, since nothing may fail in it before its first event.
+#[derive(Drop)]
+pub struct Ready {
+    /// The text that the turn publishes before any event of its own.
+    pub text: Option<Text>,
+    /// What its mark decides.
+    pub mark: Decision,
+    /// What the first line of an operation decides that begins in it.
+    pub begin: Option<Decision>,
+    /// The rows that its edit leaves marked, where that is decided.
+    pub left: LeftRows,
 }

@@ -1,4 +1,4 @@
-// What callers have of a hub.
+// What callers have of a hub. The laws of the crate performed that are called do nothing: the proofs rest on their contracts.
 ghost use Rattle.std.specs.Prelude.{◌≡◌, ◌&&◌, ◌≤◌, ◌∷◌, [], not, true, false, reverse, slice_get, IsSome, IfSome, IsErr, IfOk, OnOk, OnErr};
 ghost use Rattle.script_reader.specs.Rules.{keeps_rules};
 ghost use Rattle.script_reader.specs.World.{first_world};
@@ -6,17 +6,19 @@ ghost use Rattle.report.specs.declared.line.Line.TheVariants as line;
 ghost use Rattle.rules.specs.Kept.{actor_count};
 ghost use Rattle.rules.specs.Work.{is_finished as is_run_finished, is_idle as is_actor_idle};
 ghost use Rattle.rules.specs.Legal.{legal};
-ghost use Rattle.performed.specs.Served.{serves};
 ghost use Rattle.performed.specs.Placed.{are_placed, is_turn_allowed};
 ghost use Rattle.hub.specs.DueSoFar.{IsDueSoFar};
 ghost use Rattle.hub.specs.Hub.{ChangesNothingOrBreaks, IsAtRest, TakesTurn, kept_now, turn_answer};
 
 use crate::engine::Engine;
+use crate::served::script_is_served;
 use crate::turn::Turn;
 use apdu::Memory;
 use card_model::ScriptedSlot;
 use content_tracker::ContentTracker;
-use performed::finished_runs_are_legal;
+use performed::{
+    finished_runs_are_legal, turns_that_do_not_wait_do_something, turns_that_do_not_wait_move,
+};
 use report::{Line, Mode, Report, ReservedLines};
 use script::Script;
 use std::alloc::Global;
@@ -55,7 +57,6 @@ impl<S: ScriptedSlot + Drop> Hub<S> {
     #[tactic(auto, using(crate::proofs::Scripts::few_actors))]
     pub fn new(alloc: Global, slot: S, script: Script) -> Result<Hub<S>, Memory>
         requires rules { keeps_rules script ≡ true }
-        requires served { serves script ≡ true }
         requires world { IfSome (S.Slot.world slot) (λ w. w ≡ first_world script) }
         requires plan { IfSome (S.Slot.plan slot)
             (λ p. p ≡ record { faults = script.faults; calls = 0 }) }
@@ -67,6 +68,7 @@ impl<S: ScriptedSlot + Drop> Hub<S> {
           whole = true;
         }) }
     {
+        script_is_served(&script);
         let tracker = ContentTracker::new(alloc, &script)?;
         Ok(Hub {
             engine: Engine {
@@ -142,6 +144,8 @@ impl<S: ScriptedSlot + Drop> Hub<S> {
             Turn::Moved => {}
             idle => return Ok(idle),
         }
+        turns_that_do_not_wait_do_something();
+        turns_that_do_not_wait_move();
         let ready = self.engine.prepare(actor)?;
         self.whole = false;
         self.engine.take_turn(actor, ready)?;
@@ -163,8 +167,8 @@ impl<S: ScriptedSlot + Drop> Hub<S> {
         if !self.whole {
             return Err(Memory);
         }
-        self.engine.prepare_mark()?;
-        self.engine.mark(actor);
+        let mark = self.engine.prepare_mark(actor)?;
+        self.engine.mark(actor, mark);
         Ok(())
     }
 

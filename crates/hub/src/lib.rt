@@ -10,5 +10,4 @@ mod served;
 mod turn;
 
 pub use hub::Hub;
-pub use served::serves;
 pub use turn::Turn;

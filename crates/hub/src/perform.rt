@@ -6,7 +6,6 @@ ghost use Rattle.card_model.specs.Slot as slots;
 ghost use Rattle.report.specs.Room.{most_of_answer};
 ghost use Rattle.report.specs.declared.line.Line.TheVariants as line;
 ghost use Rattle.families.specs.Contents.{family_count};
-ghost use Rattle.rules.specs.After.{decision_at};
 ghost use Rattle.rules.specs.Due as rules;
 ghost use Rattle.rules.specs.Due.{answer_of_refusal, kept_text, tried_event};
 ghost use Rattle.rules.specs.Kept.{begun_of as begun_in};
@@ -14,14 +13,15 @@ ghost use Rattle.rules.specs.declared.kept.Begun.{Begun};
 ghost use Rattle.rules.specs.Rules.{next_fault};
 ghost use Rattle.performed.specs.Followed.{is_given_or_refused, is_slot_answer};
 ghost use Rattle.performed.specs.Told.{is_refusal_told};
+ghost use Rattle.hub.specs.Decided.{IsBegun, IsSomeDecision};
 ghost use Rattle.hub.specs.Parts.{parts};
 ghost use Rattle.hub.specs.Performing.{is_holding, is_performed};
 ghost use Rattle.hub.specs.Settled.{BreaksBehind, HasOneMore, IsSince, IsUnderWay, KeepsAll, LeavesRoom, MayPublish, most_of_text};
 
-use crate::engine::{BYTES_OF_PUBLICATION, BYTES_OF_TURN, Engine, NoPlans};
+use crate::engine::{BYTES_OF_PUBLICATION, BYTES_OF_TURN, Engine};
 use apdu::{Command, Memory, Text};
 use card_model::{Fault, ScriptedSlot, Slot, WorldEvent, WorldRefusal};
-use planner::{begun_of, decision_at_begin};
+use planner::begun_of;
 use report::{Answer, Line};
 use rules::{Decision, Due};
 use script::Script;
@@ -111,6 +111,7 @@ impl<S: ScriptedSlot> Engine<S> {
         ensures err { OnErr result (BreaksBehind from
             (parts S.Slot.world S.Slot.plan self.old) (parts S.Slot.world S.Slot.plan self.new)) }
     {
+        let _row = command.p1;
         match self.slot.exchange(&command) {
             Ok(response) => {
                 let line = Line::Exchange {
@@ -222,36 +223,38 @@ impl<S: ScriptedSlot> Engine<S> {
         self.answer(actor, from, answer)
     }
 
-    /// What the first line of an operation decides.
-    fn decision_of(&self, actor: u8, op: u32) -> Decision
-        requires { IsUnderWay actor (parts S.Slot.world S.Slot.plan self.now) }
-        ensures { result ≡ decision_at self.now.script (line.Begin actor op) self.now.tracker }
-    {
-        let kept = self.tracker.kept();
-        match decision_at_begin(self.alloc, &NoPlans, &self.script, kept, actor, op) {
-            Ok(decision) => decision,
-            Err(_) => unreachable!(),
-        }
-    }
-
-    fn begin(&mut self, actor: u8, op: u32)
+    fn begin(&mut self, actor: u8, op: u32, decision: Option<Decision>)
         requires turn { IsUnderWay actor (parts S.Slot.world S.Slot.plan self.old) }
         requires due { rules.due self.old.script self.old.tracker ≡ Due.Begin op }
+        requires decision { IsSomeDecision self.old.script (line.Begin actor op) self.old.tracker
+            decision }
         ensures line { HasOneMore (parts S.Slot.world S.Slot.plan self.old)
             (parts S.Slot.world S.Slot.plan self.new) }
         ensures spare_bytes { self.old.lines.spare_bytes ≤ self.new.lines.spare_bytes + 608 }
     {
-        let decision = self.decision_of(actor, op);
-        self.tracker.begin(&self.script, actor, op, decision);
-        self.lines.push_within(&Line::Begin { actor, op });
+        match decision {
+            None => unreachable!(),
+            Some(decision) => {
+                self.tracker.begin(&self.script, actor, op, decision);
+                self.lines.push_within(&Line::Begin { actor, op });
+            }
+        }
     }
 
-    /// The line that is due, but for a publication, in a turn that began at so many events.
-    pub fn perform(&mut self, actor: u8, from: u64, line: Due) -> Result<(), Memory>
+    /// The line that is due, but for a publication, in a turn that began at so many events. `begin` is what the first line of an operation
+    /// decides, where that is due.
+    pub fn perform(
+        &mut self,
+        actor: u8,
+        from: u64,
+        line: Due,
+        begin: Option<Decision>,
+    ) -> Result<(), Memory>
         requires turn { IsUnderWay actor (parts S.Slot.world S.Slot.plan self.old) }
         requires since { IsSince from self.old.tracker }
         requires due { rules.due self.old.script self.old.tracker ≡ line }
         requires performed { is_performed line ≡ true }
+        requires begin { IsBegun self.old.script actor self.old.tracker line begin }
         ensures line { OnOk result (HasOneMore (parts S.Slot.world S.Slot.plan self.old)
             (parts S.Slot.world S.Slot.plan self.new)) }
         ensures spare_bytes { self.old.lines.spare_bytes ≤ self.new.lines.spare_bytes + 608 }
@@ -265,7 +268,7 @@ impl<S: ScriptedSlot> Engine<S> {
             Due::TryEvent(event) => return self.try_event(actor, from, event),
             Due::TellRefusal(family, event) => self.tell_refusal(actor, family, event),
             Due::Give(answer) => return self.give(actor, from, answer),
-            Due::Begin(op) => self.begin(actor, op),
+            Due::Begin(op) => self.begin(actor, op, begin),
             Due::Publish(_) | Due::WaitFor(_) | Due::EndOfActor | Due::Rest => {}
         }
         Ok(())

@@ -1,4 +1,4 @@
-// What a turn publishes before any event of its own.
+// What a turn publishes before any event of its own, and which operation may begin in it.
 ghost use Rattle.std.specs.Prelude.{◌≡◌};
 ghost use Rattle.rules.specs.Kept.{job_of};
 ghost use Rattle.hub.specs.Ready as ready;
@@ -19,7 +19,8 @@ fn family_anew(script: &Script, kept: &Kept, actor: u8, op: u32) -> Option<u8>
     }
 }
 
-fn answered_of(actor: u8, kept: &Kept) -> u32
+/// The number of the operation that the actor begins next.
+pub fn answered_of(actor: u8, kept: &Kept) -> u32
     ensures { result ≡ (job_of actor kept.now.jobs).answered }
 {
     match kept.jobs.get(actor as usize) {

@@ -123,7 +123,7 @@ answers_in w card c None h = absurd (cc)
 answers_in w card c (Some j) h = answers_at w j card c h
 
 -- the card's response is the step's
-step_answers : (w : World) (card : CardState) (c : CommandValue) → card_inside w ≡ Some card → (step w c).1 ≡ (on_card w.changes card c).1
+pub step_answers : (w : World) (card : CardState) (c : CommandValue) → card_inside w ≡ Some card → (step w c).1 ≡ (on_card w.changes card c).1
 unfolding step
 step_answers w card c h = answers_in w card c w.inside h
 

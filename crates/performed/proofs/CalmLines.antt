@@ -37,7 +37,7 @@ use Rattle.rules.specs.Channels.{held_numbers, handle_of, is_living_handle, is_r
 use Rattle.rules.specs.Kept.{operation_at, begun_of, begun_operation, operation_now, job_of, actor_count, change_at}
 use Rattle.rules.specs.Standing.{first_stale}
 use Rattle.rules.specs.Work.{is_starting, read_stale, first_item, framework_work, reads_first, status_command, work_of_operation, if_living, living_handle, sends_raw, sends_close}
-use Rattle.rules.specs.After.{is_raw, next_or_over, stage_of_sent, stage_after, opened_behind, turn_answered, decision_of_begun, decision_at, fresh_begun, facts_of, refused_of, jobs_beside, jobs_of_actor, kept_after, kept_of, stage_of_open, job_beside, own_job, begun_exchanged, begun_with, begun_beside, edit_of}
+use Rattle.rules.specs.After.{next_or_over, stage_of_sent, stage_after, opened_behind, turn_answered, decision_of_begun, decision_at, fresh_begun, facts_of, refused_of, jobs_beside, jobs_of_actor, kept_after, kept_of, stage_of_open, job_beside, own_job, begun_exchanged, begun_with, begun_beside, edit_of}
 use Rattle.rules.specs.Due.{due}
 use Rattle.rules.specs.Rules.{is_turn_of, turn_operation, operation_in_turn}
 use Rattle.rules.specs.Performed.{is_sent}
@@ -46,7 +46,7 @@ use Rattle.performed.specs.Followed.{is_followed, are_followed}
 use Rattle.performed.proofs.ProgressBegins.{Starts, starts}
 use Rattle.performed.proofs.ProgressJobs.{changed, mapped}
 use Rattle.performed.proofs.JobPlaces.{job_count, begun_place}
-use Rattle.performed.proofs.CalmKinds.{is_calm, Calm, IsHeld, IsReader, WorkFits, SendsNext, Fits, IsOfTurn, ChainFits, Sends, IsUpdater, is_writer, TurnIs}
+use Rattle.performed.proofs.CalmKinds.{is_calm, Calm, IsHeld, IsReader, WorkFits, SendsNext, Fits, IsOfTurn, ChainFits, Sends, is_writer, TurnIs}
 use Rattle.rules.specs.declared.holdings.Handle.{Handle}
 use Rattle.rules.specs.Sessions.{verify_command}
 use Rattle.channels.specs.Channels.{open_command, close_command, select_application, on_channel, is_opening}
@@ -124,7 +124,8 @@ module _ (k : Kept) (actor : ℕ) (b : Begun) where
   operation_fits operation.Look h = tt
   operation_fits (operation.Set f at name number) h = edit_operation (Some (operation.Set f at name number)) refl tt
   operation_fits (operation.Clear f at) h = edit_operation (Some (operation.Clear f at)) refl tt
-  operation_fits op h = absurd (true≢false (sym h))
+  operation_fits (operation.Watch mask) h = tt
+  operation_fits operation.Notices h = tt
 
 begun_fits : (k : Kept) (actor : ℕ) (b : Option Begun) (op : Option Operation) → ServedOp op → WorkFits (is_living k.history) k.handles (Some actor) op (decision_of_begun k actor b op).work
 begun_fits k actor (Some b) (Some op) h = operation_fits k actor b op h
@@ -215,7 +216,8 @@ sent_by_next work (operation.End key) opened refresh f h = tt
 sent_by_next work operation.Look opened refresh f h = tt
 sent_by_next work (operation.Set g at name number) opened refresh f h = tt
 sent_by_next work (operation.Clear g at) opened refresh f h = tt
-sent_by_next work op opened refresh f h = absurd (true≢false (sym h))
+sent_by_next work (operation.Watch mask) opened refresh f h = tt
+sent_by_next work operation.Notices opened refresh f h = tt
 
 sent_next : (work : Work) (op : Option Operation) (opened : Option ℕ) (refresh : Option ProactiveValue) (f : Final) → ServedOp op → NextFits opened op work (stage_of_sent op opened refresh f)
 sent_next work None opened refresh f h = next_if opened None work (has_value asks_reset refresh) resetting over tt tt
@@ -458,17 +460,3 @@ sends_of s [] served h = record { fits = tt; chain = tt; owed = tt; bare = λ h.
 sends_of s (l ∷ earlier) served h =
     let p = and_parts (are_followed s earlier) (is_followed s (kept_of s earlier) l) h in
     line_sends s served (kept_of s earlier) (sends_of s earlier served p.0) l (job_count s earlier) p.1
-
--- no operation edits so far
-no_writer_of : (op : Option Operation) → ServedOp op → is_writer op ≡ true → ⊥
-no_writer_of (Some (operation.Set f at name number)) v h = never v
-no_writer_of (Some (operation.Clear f at)) v h = never v
-no_writer_of op v h = never h
-
-no_writer_in : (s : Script) (k : Kept) (o : Option ℕ) → serves s ≡ true → is_writer (operation_in_turn s k o) ≡ true → ⊥
-no_writer_in s k None v h = never h
-no_writer_in s k (Some a) v h = no_writer_of (operation_now s a k.jobs) (served_now s a k.jobs v) h
-
-pub raw_alone : (s : Script) (k : Kept) (c : CommandValue) → serves s ≡ true → IsUpdater s k c → has_value is_raw (turn_operation s k) ≡ true
-raw_alone s k c v (inl h) = h
-raw_alone s k c v (inr e) = absurd (no_writer_in s k k.turn.actor v e.writer)

@@ -1,13 +1,14 @@
 -- Over a script that is served, while an epoch lives and no reset is due, the board shows of each family what the card shows, or the family is
--- stale, or a reading of it was refused that began behind the last change: an application's UPDATE makes each wanted family stale, and a FETCH
--- those whose files its change touches, or the card is reset. Without a living epoch the board shows nothing, once its end is told.
+-- stale, or a reading of it was refused that began behind the last change, or the publication of an edit is awaited: an application's UPDATE
+-- makes each wanted family stale, and a FETCH those whose files its change touches, or the card is reset; and an edit's own UPDATE that decides
+-- is published before it is answered. Without a living epoch the board shows nothing, once its end is told.
 use Rattle.std.proofs.Common.{◌≡◌, ◌⊎◌, inl, inr, ◌≤◌, ◌<◌, ℕ, zero, suc, ◌+◌, ◌-◌, ◌==◌, ◌&&◌, ◌||◌, Bool, true, false, if◌then◌else◌, Option, Some, None, List, [], ◌∷◌, map, refl, ap, sym, ◌∙◌, subst, arith, true≢false}
 use Rattle.std.specs.Prelude.{slice_get, unwrap_or, option_map, find, is_some, not, nat_le, nat_lt, max}
 use Rattle.std.specs.List.{list_all, list_any}
-use Rattle.std.proofs.lemmas.Bool.{and_parts, and_from, eqb-true, ltb-true, ltb-false, or_cases}
+use Rattle.std.proofs.lemmas.Bool.{and_parts, and_from, eqb-true, ltb-true, ltb-false, not-true, or_cases, or_parts}
 use Rattle.apdu.specs.Values.{CommandValue, ResponseValue}
 use Rattle.apdu.specs.Words.{has_value, is_one_of, same_bytes}
-use Rattle.apdu.specs.Apdu.{fetch_ins, is_update_ins, is_success}
+use Rattle.apdu.specs.Apdu.{fetch_ins, is_success}
 use Rattle.refresh_cmd.specs.Values.{ProactiveValue}
 use Rattle.refresh_cmd.specs.Proactive.{read_proactive}
 use Rattle.card_model.specs.declared.world.World.{World}
@@ -23,7 +24,7 @@ use Rattle.families.specs.Families.{all_families, family_paths, iccid_path, imsi
 use Rattle.epoch_cache.specs.declared.cached.Touch.{Touch}
 use Rattle.epoch_cache.specs.declared.cached.Written.TheVariants as written
 use Rattle.epoch_cache.specs.declared.cached.Written.{Written}
-use Rattle.epoch_cache.specs.Cache.{asks_reset, handed_refresh, is_moved_by, is_overwritten, is_refreshed, is_spoiled, is_update, is_row_update, is_raw_write, refresh_of, touch_exchanged, is_renewed, renews_one, written_by}
+use Rattle.epoch_cache.specs.Cache.{asks_reset, handed_refresh, is_moved, is_moved_by, is_overwritten, is_unknown_write, moves_one, is_refreshed, is_spoiled, is_update, is_row_update, is_raw_write, refresh_of, touch_exchanged, is_renewed, renews_one, written_by}
 use Rattle.link.specs.Commands.{chain_first}
 use Rattle.loader.specs.declared.reading.RefusedReading.{RefusedReading}
 use Rattle.rules.specs.declared.due.Due.{Due}
@@ -35,24 +36,29 @@ use Rattle.rules.specs.declared.kept.Work.{Work}
 use Rattle.rules.specs.declared.standing.Standing.{Standing}
 use Rattle.rules.specs.LookingBack.{is_wanted}
 use Rattle.rules.specs.Standing.{first_standing, settled_by, unless_settled, latest, shown_behind, standing_by, standing_after, refused_in, is_stale, first_stale}
-use Rattle.rules.specs.After.{is_raw, is_raw_line, facts_of, refused_of, jobs_beside, family_begun, kept_after, kept_of}
+use Rattle.rules.specs.After.{is_raw_line, facts_of, refused_of, jobs_beside, family_begun, kept_after, kept_of}
 use Rattle.rules.specs.Kept.{actor_count, begun_of}
 use Rattle.rules.specs.Due.{due, is_reset_due, kept_text, reset_by_stage}
 use Rattle.rules.specs.Performed.{ends_turn, is_published}
 use Rattle.rules.specs.Work.{has_begun, has_work, has_work_alive, is_finished, is_quiet, is_starting}
-use Rattle.rules.specs.Rules.{is_turn_of, is_begun_at, has_right_response, has_right_fault, is_refusal_known, is_shown_right, is_standing_right, is_rest_right}
+use Rattle.rules.specs.Rules.{is_turn_of, is_begun_at, has_right_edit, has_right_response, is_refusal_known, is_shown_right, is_standing_right, is_rest_right}
 use Rattle.rules.specs.State.{shown_in, same_shown, text_of, texts_of, world_after, world_of, state_of}
-use Rattle.rules.specs.Laws.{ShowsCard}
+use Rattle.book_plans.specs.Law.{PlansMakeEdits}
+use Rattle.rules.specs.Laws.{KeptAgrees, KeptLooksBack, PlansForCard, ShowsCard}
 use Rattle.rules.specs.Legal.{changed_in}
 use Rattle.rules.specs.Agreement.{are_responses_right}
 use Rattle.performed.specs.Served.{serves}
 use Rattle.performed.specs.Followed.{is_given_or_refused, is_tried, is_followed, are_followed}
 use Rattle.performed.specs.Told.{is_told, are_told}
 use Rattle.performed.proofs.CalmLent.{state_world, state_kept, state_texts}
-use Rattle.performed.proofs.CalmSends.{exchange_update}
-use Rattle.performed.proofs.CalmLines.{sends_of, turn_is, raw_alone}
+use Rattle.performed.proofs.CalmEdits.{edits_right}
+use Rattle.performed.proofs.CalmAnswers.{told_response, responses_right}
 use Rattle.performed.proofs.CalmCards.{dead}
 use Rattle.performed.proofs.CalmKnown.{goes_to_reset}
+use Rattle.performed.proofs.EditsAwaited.{IsAwaited, answer_awaited, arm_awaited, begin_awaited, exchange_awaited, mark_awaited, publication_awaited, refusal_awaited}
+use Rattle.performed.proofs.EditsKept.{How, Wrote, still, by_raw, by_edit, how, own, own_file}
+use Rattle.performed.proofs.EditsShown.{decided_awaits, edited_here, kept_shown, other_unspoiled, unmoved, whose, written_known}
+use Rattle.performed.proofs.EpochDecided.{none_decided}
 use Rattle.performed.proofs.CalmTurn.{final_success}
 use Rattle.performed.proofs.MeasureShape.{IsFirstOf, exchange_next, shape}
 use Rattle.performed.proofs.TurnsSays.{IsDone, turn_done}
@@ -75,13 +81,16 @@ record Seen : Type 0 where
   changed : ℕ → ℕ
   -- an epoch lives, and no reset is due in its turn
   holds : Bool
+  script : Script
+  kept : Kept
 
--- a publication that the card still shows, one of a family that is stale since its last renewal, or one of a family of which a later
--- reading was refused
+-- a publication that the card still shows, one of a family that is stale since its last renewal, one of a family of which a later reading was
+-- refused, or of which an edit's publication is awaited
 data IsKnown (b : Seen) (st : Standing) (n : ℕ) : Type 0 where
   current : same_shown (shown_in b.world st.family) (Some (text_of b.count n b.texts)) ≡ true → IsKnown b st n
   stale : st.stale ≡ Some st.renewed → b.changed st.family ≤ st.renewed → IsKnown b st n
   refused : (r : ℕ) → st.refused ≡ Some r → st.renewed < r → b.changed st.family < r → IsKnown b st n
+  awaited : IsAwaited b.script b.kept st.family → IsKnown b st n
 
 record IsTrue (b : Seen) (st : Standing) (n : ℕ) : Type 0 where
   upto : n ≤ b.count
@@ -111,10 +120,11 @@ first_true b (f ∷ families) h = let p = and_parts (is_one_of f all_families) (
 
 -- ---- what stays known
 
-known_by : (b v : Seen) (st : Standing) (n : ℕ) → shown_in v.world st.family ≡ shown_in b.world st.family → text_of v.count n v.texts ≡ text_of b.count n b.texts → v.changed st.family ≡ b.changed st.family → IsKnown b st n → IsKnown v st n
-known_by b v st n shows text changed (current h) = current (ap (λ (o : Option (List ℕ)). same_shown o (Some (text_of v.count n v.texts))) shows ∙ ap (λ (x : List ℕ). same_shown (shown_in b.world st.family) (Some x)) text ∙ h)
-known_by b v st n shows text changed (stale at h) = stale at (subst (λ (m : ℕ). m ≤ st.renewed) (sym changed) h)
-known_by b v st n shows text changed (refused r at h g) = refused r at h (subst (λ (m : ℕ). m < r) (sym changed) g)
+known_by : (b v : Seen) (st : Standing) (n : ℕ) → shown_in v.world st.family ≡ shown_in b.world st.family → text_of v.count n v.texts ≡ text_of b.count n b.texts → v.changed st.family ≡ b.changed st.family → (IsAwaited b.script b.kept st.family → IsAwaited v.script v.kept st.family) → IsKnown b st n → IsKnown v st n
+known_by b v st n shows text changed edits (current h) = current (ap (λ (o : Option (List ℕ)). same_shown o (Some (text_of v.count n v.texts))) shows ∙ ap (λ (x : List ℕ). same_shown (shown_in b.world st.family) (Some x)) text ∙ h)
+known_by b v st n shows text changed edits (stale at h) = stale at (subst (λ (m : ℕ). m ≤ st.renewed) (sym changed) h)
+known_by b v st n shows text changed edits (refused r at h g) = refused r at h (subst (λ (m : ℕ). m < r) (sym changed) g)
+known_by b v st n shows text changed edits (awaited h) = awaited (edits h)
 
 -- a refused reading that is known stays so
 latest_least : (before : Option ℕ) (r : ℕ) → (m : ℕ) × ((latest (Some r) before ≡ Some m) × (r ≤ m))
@@ -165,6 +175,7 @@ module _ (b : Seen) (l : Line) (event : ℕ) (now begun : Option ℕ) (st : Stan
   goes_known : (renews : Bool) → settled_by st.family l now ≡ now → b.changed st.family ≤ event → IsKnown b st n → StaysKnown renews
   goes_known true none past k = renewed_known past
   goes_known false none past (current h) = current h
+  goes_known false none past (awaited h) = awaited h
   goes_known false none past (stale at h) = unsettled_known none h at now refl
   goes_known false none past (refused r at h g) =
       let m = latest_kept now r in
@@ -193,12 +204,12 @@ module _ (b v : Seen) (l : Line) (event : ℕ) (now begun : Option ℕ) (st : St
   upto_later n h = omega (arith, h, count)
 
   -- the card shows the same
-  shown_still : (renews : Bool) → (v.holds ≡ true → b.holds ≡ true) → settled_by st.family l now ≡ now → shown_in v.world st.family ≡ shown_in b.world st.family → ((n : ℕ) → n ≤ b.count → text_of v.count n v.texts ≡ text_of b.count n b.texts) → v.changed st.family ≡ b.changed st.family → b.changed st.family ≤ event → (o : Option ℕ) → IsShown b st o → IsShown v (standing_by l event renews now begun st) o
-  shown_still renews held none shows text changed past None t = tt
-  shown_still renews held none shows text changed past (Some n) t = record {
+  shown_still : (renews : Bool) → (v.holds ≡ true → b.holds ≡ true) → settled_by st.family l now ≡ now → shown_in v.world st.family ≡ shown_in b.world st.family → ((n : ℕ) → n ≤ b.count → text_of v.count n v.texts ≡ text_of b.count n b.texts) → v.changed st.family ≡ b.changed st.family → b.changed st.family ≤ event → (v.holds ≡ true → IsAwaited b.script b.kept st.family → IsAwaited v.script v.kept st.family) → (o : Option ℕ) → IsShown b st o → IsShown v (standing_by l event renews now begun st) o
+  shown_still renews held none shows text changed past edits None t = tt
+  shown_still renews held none shows text changed past edits (Some n) t = record {
     upto = upto_later n t.upto;
     wanted = or_now st.wanted (has_value (λ f. f == st.family) begun) t.wanted;
-    known = λ h. goes_known v l event now begun st n renews none (subst (λ (m : ℕ). m ≤ event) (sym changed) past) (known_by b v st n shows (text n t.upto) changed (t.known (held h)));
+    known = λ h. goes_known v l event now begun st n renews none (subst (λ (m : ℕ). m ≤ event) (sym changed) past) (known_by b v st n shows (text n t.upto) changed (edits h) (t.known (held h)));
   }
 
   -- the family is renewed, where it is wanted
@@ -254,28 +265,6 @@ module _ (shows : ShowsCard) (s : Script) (earlier : List Line) (rules : keeps_r
       record { next = eqb-true number (k.publications + 1) q1.1; shown = publication_shows f g text (eqb-true f g q1.0) (same_bytes_is text (kept_text f k) q4.1) is }
   publication_by number f e n text d is h = dead h
 
--- ---- the answers of the card
-
-pub told_response : (s : Script) (w : World) (k : Kept) (l : Line) → is_told s w k l ≡ true → has_right_response w l ≡ true
-told_response s w k (line.Exchange a c r) h = (and_parts (has_right_response w (line.Exchange a c r)) (has_right_fault s w k (line.Exchange a c r)) h).0
-told_response s w k (line.Failed a c d) h = (and_parts (has_right_response w (line.Failed a c d)) (has_right_fault s w k (line.Failed a c d)) h).0
-told_response s w k (line.Reset a) h = refl
-told_response s w k (line.ResetFailed a) h = refl
-told_response s w k (line.World a e) h = refl
-told_response s w k (line.Turn a) h = refl
-told_response s w k (line.Begin a i) h = refl
-told_response s w k (line.Published n f e v text) h = refl
-told_response s w k (line.EpochEnd n e v) h = refl
-told_response s w k (line.Refused f n) h = refl
-told_response s w k (line.Answered a i given) h = refl
-
--- the card gave each response of lines that tell what the slot gave
-pub responses_right : (s : Script) (lines : List Line) → are_told s lines ≡ true → are_responses_right s lines ≡ true
-responses_right s [] h = refl
-responses_right s (l ∷ earlier) h =
-    let p = and_parts (are_told s earlier) (is_told s (world_of s earlier) (kept_of s earlier) l) h in
-    and_from (are_responses_right s earlier) (has_right_response (world_of s earlier) l) (responses_right s earlier p.0) (told_response s (world_of s earlier) (kept_of s earlier) l p.1)
-
 -- ---- every line
 
 -- what the line does to a standing
@@ -288,7 +277,7 @@ holds_of k = k.history.living && not (goes_to_reset k.turn.stage)
 
 -- what the board is compared with behind the lines
 abbrev seen : Script → List Line → Seen
-seen s lines = record { world = world_of s lines; count = (kept_of s lines).publications; texts = texts_of lines; changed = changed_in s lines; holds = holds_of (kept_of s lines) }
+seen s lines = record { world = world_of s lines; count = (kept_of s lines).publications; texts = texts_of lines; changed = changed_in s lines; holds = holds_of (kept_of s lines); script = s; kept = kept_of s lines }
 
 abbrev BoardTrue : Script → List Line → Type 0
 BoardTrue s lines = AllTrue (seen s lines) (kept_of s lines).standings
@@ -324,6 +313,12 @@ some_path t selected (path ∷ paths) begins none asks h = elim (or_cases (is_sp
   | inr p ↦ or_later (is_renewed t path) (renews_one t paths) (some_path t selected paths begins none asks p)
 ]
 
+unspoiled_unmoved : (t : Touch) (selected : Option (List ℕ)) (paths : List (List ℕ)) → list_any (is_spoiled t selected) paths ≡ false → moves_one t paths ≡ false
+unspoiled_unmoved t selected [] h = refl
+unspoiled_unmoved t selected (path ∷ paths) h =
+    let p = or_parts (is_spoiled t selected path) (list_any (is_spoiled t selected) paths) h in
+    ap (λ (b : Bool). b || moves_one t paths) (or_parts (is_moved t path) (is_overwritten selected path t.written) p.0).0 ∙ unspoiled_unmoved t selected paths p.1
+
 nothing_written : (raw : Bool) (selected : Option (List ℕ)) (c : CommandValue) (r : ResponseValue) → is_update c r ≡ false → written_by raw selected c r ≡ written.Nothing
 nothing_written raw selected c r h = ap (λ (b : Bool). if not b then written.Nothing else if raw then written.Raw else if is_row_update c && is_some selected then written.Row else written.Unknown) h
 
@@ -339,7 +334,7 @@ raw_renews raw selected c r path h g = by_write (is_update c r) raw h g
     by_write true false e q = dead q
     by_write false raw e q = dead e
 
-module _ (shows : ShowsCard) (s : Script) (earlier : List Line) (rules : keeps_rules s ≡ true) (served : serves s ≡ true) (followed : are_followed s earlier ≡ true) (told : are_told s earlier ≡ true) (t : BoardTrue s earlier) where
+module _ (agrees : KeptAgrees) (looks : KeptLooksBack) (plans : PlansForCard) (makes : PlansMakeEdits) (shows : ShowsCard) (s : Script) (earlier : List Line) (rules : keeps_rules s ≡ true) (served : serves s ≡ true) (followed : are_followed s earlier ≡ true) (told : are_told s earlier ≡ true) (t : BoardTrue s earlier) where
   abbrev before : World
   before = world_of s earlier
 
@@ -351,7 +346,7 @@ module _ (shows : ShowsCard) (s : Script) (earlier : List Line) (rules : keeps_r
 
   -- nothing is published
   abbrev after : Line → Seen
-  after l = record { world = world_after l before; count = kept.publications; texts = texts_of earlier; changed = changed_in s (l ∷ earlier); holds = holds_of (kept_after s l kept) }
+  after l = record { world = world_after l before; count = kept.publications; texts = texts_of earlier; changed = changed_in s (l ∷ earlier); holds = holds_of (kept_after s l kept); script = s; kept = kept_after s l kept }
 
   abbrev Behind : Line → Type 0
   Behind l = AllTrue (after l) (map (standing_behind s kept l) kept.standings)
@@ -375,10 +370,14 @@ module _ (shows : ShowsCard) (s : Script) (earlier : List Line) (rules : keeps_r
     shows = subst (λ (o : Option ℕ). IsShown (after l) (standing_behind s kept l st) o) (sym (told_still st.family st.shown)) (each st q);
   }) kept.standings (standings_wanted s earlier) t
 
+  -- the publication of an edit is still awaited
+  abbrev Continues : Line → ℕ → Type 0
+  Continues l f = (after l).holds ≡ true → IsAwaited s kept f → IsAwaited s (kept_after s l kept) f
+
   -- of one standing: the card shows the same of it
-  one_same : (l : Line) → ((after l).holds ≡ true → (seen s earlier).holds ≡ true) → ((f : ℕ) (x : Option ℕ) → settled_by f l x ≡ x) → (st : Standing) → shown_in (world_after l before) st.family ≡ shown_in before st.family → StandsTrue (seen s earlier) st → IsShown (after l) (standing_behind s kept l st) st.shown
-  one_same l held settles st same q =
-      shown_still (seen s earlier) (after l) l event (refused_in st.family (refused_now l)) (family_begun s l) st (itself kept.publications) (renews_now l st) held (settles st.family (refused_in st.family (refused_now l))) same (λ n h. refl) (changed_same s st.family l earlier same) (past_event st.family) st.shown q.shows
+  one_same : (l : Line) → ((after l).holds ≡ true → (seen s earlier).holds ≡ true) → ((f : ℕ) (x : Option ℕ) → settled_by f l x ≡ x) → (st : Standing) → shown_in (world_after l before) st.family ≡ shown_in before st.family → Continues l st.family → StandsTrue (seen s earlier) st → IsShown (after l) (standing_behind s kept l st) st.shown
+  one_same l held settles st same edits q =
+      shown_still (seen s earlier) (after l) l event (refused_in st.family (refused_now l)) (family_begun s l) st (itself kept.publications) (renews_now l st) held (settles st.family (refused_in st.family (refused_now l))) same (λ n h. refl) (changed_same s st.family l earlier same) (past_event st.family) edits st.shown q.shows
 
   -- it is renewed
   one_renewed : (l : Line) → ((f : ℕ) → changed_in s (l ∷ earlier) f ≤ event) → (st : Standing) → renews_one (facts_of s l kept).touch (family_paths st.family) ≡ true → StandsTrue (seen s earlier) st → IsShown (after l) (standing_behind s kept l st) st.shown
@@ -391,8 +390,8 @@ module _ (shows : ShowsCard) (s : Script) (earlier : List Line) (rules : keeps_r
       shown_past (seen s earlier) (after l) l event (refused_in st.family (refused_now l)) (family_begun s l) st (itself kept.publications) (renews_now l st) past st.shown q.shows
 
   -- and so of all
-  same_board : (l : Line) → ((after l).holds ≡ true → (seen s earlier).holds ≡ true) → ((f : ℕ) (x : Option ℕ) → settled_by f l x ≡ x) → ((f : ℕ) (o : Option ℕ) → shown_behind f l o ≡ o) → ((f : ℕ) → shown_in (world_after l before) f ≡ shown_in before f) → Behind l
-  same_board l held settles told_still same = by_each l told_still (λ st q. one_same l held settles st (same st.family) q)
+  same_board : (l : Line) → ((after l).holds ≡ true → (seen s earlier).holds ≡ true) → ((f : ℕ) (x : Option ℕ) → settled_by f l x ≡ x) → ((f : ℕ) (o : Option ℕ) → shown_behind f l o ≡ o) → ((f : ℕ) → shown_in (world_after l before) f ≡ shown_in before f) → ((f : ℕ) → IsAwaited s kept f → IsAwaited s (kept_after s l kept) f) → Behind l
+  same_board l held settles told_still same edits = by_each l told_still (λ st q. one_same l held settles st (same st.family) (λ h. edits st.family) q)
 
   renewed_board : (l : Line) → ((f : ℕ) (o : Option ℕ) → shown_behind f l o ≡ o) → ((path : List ℕ) → is_renewed (facts_of s l kept).touch path ≡ true) → ((f : ℕ) → changed_in s (l ∷ earlier) f ≤ event) → Behind l
   renewed_board l told_still renews past = by_each l told_still (λ st q. one_renewed l past st (some_renewed (facts_of s l kept).touch st.family renews q.known) q)
@@ -443,25 +442,70 @@ module _ (shows : ShowsCard) (s : Script) (earlier : List Line) (rules : keeps_r
   exchange_one a c r h right undone st q = by_reset (has_value asks_reset (handed_refresh c r)) refl
     where
       by_spoil : (b : Bool) → list_any (is_spoiled (facts_of s (line.Exchange a c r) kept).touch kept.selected) (family_paths st.family) ≡ b → has_value asks_reset (handed_refresh c r) ≡ false → IsShown (after (line.Exchange a c r)) (standing_behind s kept (line.Exchange a c r) st) st.shown
-      by_spoil false e asks = one_same (line.Exchange a c r) (exchange_held a c r h) (λ f x. refl) st (stays_shown s earlier a c r rules (responses_right s earlier told) right st.family q.known e) q
+      by_spoil false e asks =
+          one_same (line.Exchange a c r) (exchange_held a c r h) (λ f x. refl) st (stays_shown s earlier a c r rules (responses_right s earlier told) right st.family q.known e)
+          (λ held t. exchange_awaited looks s earlier followed st.family t a c r h (unspoiled_unmoved (facts_of s (line.Exchange a c r) kept).touch kept.selected (family_paths st.family) e) (ap is_unknown_write (nothing_written (is_raw_line s (line.Exchange a c r) kept.jobs) kept.selected c r undone))) q
       by_spoil true e asks = one_renewed (line.Exchange a c r) (λ f. changed_upto s f (line.Exchange a c r ∷ earlier)) st (spoiled_renewed (is_raw_line s (line.Exchange a c r) kept.jobs) kept.selected c r (family_paths st.family) undone asks e) q
 
       by_reset : (b : Bool) → has_value asks_reset (handed_refresh c r) ≡ b → IsShown (after (line.Exchange a c r)) (standing_behind s kept (line.Exchange a c r) st) st.shown
       by_reset true e = one_past (line.Exchange a c r) (reset_holds a c r h e) st q
       by_reset false e = by_spoil (list_any (is_spoiled (facts_of s (line.Exchange a c r) kept).touch kept.selected) (family_paths st.family)) refl e
 
-  exchange_by : (a : ℕ) (c : CommandValue) (r : ResponseValue) → is_followed s kept (line.Exchange a c r) ≡ true → has_right_response before (line.Exchange a c r) ≡ true → (b : Bool) → is_update c r ≡ b → Behind (line.Exchange a c r)
-  exchange_by a c r h right false e = by_each (line.Exchange a c r) (λ f o. refl) (λ st q. exchange_one a c r h right e st q)
-  exchange_by a c r h right true e =
-      let update : is_update_ins c.ins ≡ true = (and_parts (is_update_ins c.ins) (is_success r.sw) e).0 in
-      renewed_board (line.Exchange a c r) (λ f o. refl) (λ path. raw_renews (is_raw_line s (line.Exchange a c r) kept.jobs) kept.selected c r path e (sym (ap (has_value is_raw) (turn_is s kept a c r h)) ∙ raw_alone s kept c served (exchange_update s kept a c r (sends_of s earlier served followed) h update))) (λ f. changed_upto s f (line.Exchange a c r ∷ earlier))
+  -- an UPDATE of an edit that was done
+  module _ (a : ℕ) (c : CommandValue) (r : ResponseValue) (h : is_followed s kept (line.Exchange a c r) ≡ true) (right : has_right_response before (line.Exchange a c r) ≡ true) (x : Wrote agrees s rules served earlier followed told (edited_here agrees looks plans s rules served earlier followed told) a c r h right) (done : is_update c r ≡ true) (edit : has_right_edit s before kept (line.Exchange a c r) ≡ true) where
+    abbrev updated : ℕ
+    updated = whose agrees looks plans s rules served earlier followed told a c r h right x done
+
+    goes_on : (f : ℕ) → Continues (line.Exchange a c r) f
+    goes_on f held t = exchange_awaited looks s earlier followed f t a c r h (unmoved agrees looks plans s rules served earlier followed told a c r h right x done f) (written_known agrees looks plans s rules served earlier followed told a c r h right x done)
+
+    own_update : (st : Standing) → updated ≡ st.family → StandsTrue (seen s earlier) st → ((own agrees s rules served earlier followed told (edited_here agrees looks plans s rules served earlier followed told) a c r h right x.work).write.update.file ≡ 0) ⊎ ((own agrees s rules served earlier followed told (edited_here agrees looks plans s rules served earlier followed told) a c r h right x.work).write.update.file ≡ 1) → IsShown (after (line.Exchange a c r)) (standing_behind s kept (line.Exchange a c r) st) st.shown
+    own_update st same q (inr e) =
+        one_same (line.Exchange a c r) (exchange_held a c r h) (λ f y. refl) st
+        (subst (λ (f : ℕ). shown_in (world_after (line.Exchange a c r) before) f ≡ shown_in before f) same (kept_shown agrees looks plans s rules served earlier followed told a c r h right x done edit e)) (goes_on st.family) q
+    own_update st same q (inl e) = by_shown st.shown q.shows
+      where
+        by_shown : (n : Option ℕ) → IsShown (seen s earlier) st n → IsShown (after (line.Exchange a c r)) (standing_behind s kept (line.Exchange a c r) st) n
+        by_shown None t = tt
+        by_shown (Some n) t = record {
+          upto = t.upto;
+          wanted = or_now st.wanted (has_value (λ f. f == st.family) (family_begun s (line.Exchange a c r))) t.wanted;
+          known = λ held. awaited (subst (IsAwaited s (kept_after s (line.Exchange a c r) kept)) same (decided_awaits agrees looks plans s rules served earlier followed told a c r h right x done e));
+        }
+
+    update_one : (st : Standing) → StandsTrue (seen s earlier) st → IsShown (after (line.Exchange a c r)) (standing_behind s kept (line.Exchange a c r) st) st.shown
+    update_one st q = by_family (updated == st.family) refl
+      where
+        by_family : (b : Bool) → (updated == st.family) ≡ b → IsShown (after (line.Exchange a c r)) (standing_behind s kept (line.Exchange a c r) st) st.shown
+        by_family true e = own_update st (eqb-true updated st.family e) q (own_file agrees s rules served earlier followed told (edited_here agrees looks plans s rules served earlier followed told) a c r h right x.work)
+        by_family false e =
+            one_same (line.Exchange a c r) (exchange_held a c r h) (λ f y. refl) st
+            (stays_shown s earlier a c r rules (responses_right s earlier told) right st.family q.known (other_unspoiled agrees looks plans s rules served earlier followed told a c r h right x done st.family q.known e)) (goes_on st.family) q
+
+  exchange_by : (a : ℕ) (c : CommandValue) (r : ResponseValue) → is_followed s kept (line.Exchange a c r) ≡ true → is_told s before kept (line.Exchange a c r) ≡ true → (b : Bool) → is_update c r ≡ b → Behind (line.Exchange a c r)
+  exchange_by a c r h told_now false e = by_each (line.Exchange a c r) (λ f o. refl) (λ st q. exchange_one a c r h (told_response s before kept (line.Exchange a c r) told_now) e st q)
+  exchange_by a c r h told_now true e = by_how (how agrees s rules served earlier followed told (edited_here agrees looks plans s rules served earlier followed told) a c r h right)
+    where
+      right : has_right_response before (line.Exchange a c r) ≡ true
+      right = told_response s before kept (line.Exchange a c r) told_now
+
+      edit : has_right_edit s before kept (line.Exchange a c r) ≡ true
+      edit =
+          edits_right agrees plans makes s earlier (line.Exchange a c r) rules served
+          (and_from (are_followed s earlier) (is_followed s kept (line.Exchange a c r)) followed h)
+          (and_from (are_told s earlier) (is_told s before kept (line.Exchange a c r)) told told_now)
+
+      by_how : How agrees s rules served earlier followed told (edited_here agrees looks plans s rules served earlier followed told) a c r h right → Behind (line.Exchange a c r)
+      by_how (still idle) = dead (sym (ap (λ (b : Bool). b && is_success r.sw) idle) ∙ e)
+      by_how (by_raw raw) = renewed_board (line.Exchange a c r) (λ f o. refl) (λ path. raw_renews (is_raw_line s (line.Exchange a c r) kept.jobs) kept.selected c r path e raw) (λ f. changed_upto s f (line.Exchange a c r ∷ earlier))
+      by_how (by_edit x) = by_each (line.Exchange a c r) (λ f o. refl) (λ st q. update_one a c r h right x e edit st q)
 
   -- ---- an event of the world
 
-  event_by : (a : ℕ) (e : WorldEvent) → is_reset_due kept ≡ false → Behind (line.World a e)
-  event_by a (Insert j) reset = renewed_board (line.World a (Insert j)) (λ f o. refl) (λ path. refl) (λ f. changed_upto s f (line.World a (Insert j) ∷ earlier))
-  event_by a Out reset = past_board (line.World a Out) (λ f o. refl) refl
-  event_by a (Arm j) reset = same_board (line.World a (Arm j)) (λ h. held_behind reset kept.history.living true refl h) (λ f x. refl) (λ f o. refl) (λ f. arm_shown before j f)
+  event_by : (a : ℕ) (e : WorldEvent) → is_followed s kept (line.World a e) ≡ true → is_reset_due kept ≡ false → Behind (line.World a e)
+  event_by a (Insert j) followed_now reset = renewed_board (line.World a (Insert j)) (λ f o. refl) (λ path. refl) (λ f. changed_upto s f (line.World a (Insert j) ∷ earlier))
+  event_by a Out followed_now reset = past_board (line.World a Out) (λ f o. refl) refl
+  event_by a (Arm j) followed_now reset = same_board (line.World a (Arm j)) (λ h. held_behind reset kept.history.living true refl h) (λ f x. refl) (λ f o. refl) (λ f. arm_shown before j f) (λ f t. arm_awaited looks s earlier followed f t a j followed_now)
 
   -- ---- a publication
 
@@ -475,7 +519,7 @@ module _ (shows : ShowsCard) (s : Script) (earlier : List Line) (rules : keeps_r
   published_shown : (number f e n : ℕ) (text : List ℕ) → is_published kept number f e n text (due s kept) ≡ true → IsToldTrue before kept number f text → (st : Standing) → IsWanted s earlier st → StandsTrue (seen s earlier) st → (b : Bool) → (f == st.family) ≡ b → IsShown (seen s (line.Published number f e n text ∷ earlier)) (standing_behind s kept (line.Published number f e n text) st) (if b then Some number else st.shown)
   published_shown number f e n text h is st a q false g =
       shown_still (seen s earlier) (seen s (line.Published number f e n text ∷ earlier)) (line.Published number f e n text) event None None st (to_more kept.publications) (st.wanted && renews_one quiet_touch (family_paths st.family)) (published_held number f e n text h)
-      (ap (λ (b : Bool). if b then Some n else None) g) refl (λ m u. text_later kept.publications m text (texts_of earlier) u) refl (past_event st.family) st.shown q.shows
+      (ap (λ (b : Bool). if b then Some n else None) g) refl (λ m u. text_later kept.publications m text (texts_of earlier) u) refl (past_event st.family) (λ held t. publication_awaited looks s earlier followed st.family t number f e n text h g) st.shown q.shows
   published_shown number f e n text h is st a q true g =
       let family : f ≡ st.family = eqb-true f st.family g in
       let known : is_one_of f all_families ≡ true = subst (λ (x : ℕ). is_one_of x all_families ≡ true) (sym family) q.known in
@@ -515,25 +559,26 @@ module _ (shows : ShowsCard) (s : Script) (earlier : List Line) (rules : keeps_r
   marked_held a h = (turn_done s kept (and_parts (ends_turn (due s kept)) (not (is_finished s kept)) (and_parts (ends_turn (due s kept) && not (is_finished s kept)) (nat_le a (actor_count s)) h).0).0).reset
 
   line_board : (l : Line) → is_followed s kept l ≡ true → is_told s before kept l ≡ true → BoardTrue s (l ∷ earlier)
-  line_board (line.Exchange a c r) h told_now = exchange_by a c r h (told_response s before kept (line.Exchange a c r) told_now) (is_update c r) refl
+  line_board (line.Exchange a c r) h told_now = exchange_by a c r h told_now (is_update c r) refl
   line_board (line.Failed a c d) h told_now = past_board (line.Failed a c d) (λ f o. refl) refl
   line_board (line.Reset a) h told_now = renewed_board (line.Reset a) (λ f o. refl) (λ path. refl) (λ f. changed_upto s f (line.Reset a ∷ earlier))
   line_board (line.ResetFailed a) h told_now = past_board (line.ResetFailed a) (λ f o. refl) refl
-  line_board (line.World a e) h told_now = event_by a e (none_resets s kept (tried_last e (due s kept) (and_parts (is_turn_of a kept.turn) (is_tried e (due s kept)) h).1))
-  line_board (line.Turn a) h told_now = same_board (line.Turn a) (λ held. held_behind (marked_held a h) kept.history.living true refl held) (λ f x. refl) (λ f o. refl) (λ f. refl)
-  line_board (line.Begin a i) h told_now = same_board (line.Begin a i) (λ held. held) (λ f x. refl) (λ f o. refl) (λ f. refl)
+  line_board (line.World a e) h told_now = event_by a e h (none_resets s kept (tried_last e (due s kept) (and_parts (is_turn_of a kept.turn) (is_tried e (due s kept)) h).1))
+  line_board (line.Turn a) h told_now = same_board (line.Turn a) (λ held. held_behind (marked_held a h) kept.history.living true refl held) (λ f x. refl) (λ f o. refl) (λ f. refl) (λ f t. mark_awaited looks s earlier followed f t a h)
+  line_board (line.Begin a i) h told_now = same_board (line.Begin a i) (λ held. held) (λ f x. refl) (λ f o. refl) (λ f. refl) (λ f t. begin_awaited looks s earlier followed f t a i h)
   line_board (line.Published number f e n text) h told_now = published_board number f e n text h
   line_board (line.EpochEnd number e n) h told_now = ended_board number e n
-  line_board (line.Refused f n) h told_now = same_board (line.Refused f n) (λ held. held) (λ f x. refl) (λ f o. refl) (λ f. refl)
-  line_board (line.Answered a i given) h told_now = same_board (line.Answered a i given) (λ held. held_behind (answered_held a i given h) kept.history.living true refl held) (λ f x. refl) (λ f o. refl) (λ f. refl)
+  line_board (line.Refused f n) h told_now = same_board (line.Refused f n) (λ held. held) (λ f x. refl) (λ f o. refl) (λ f. refl) (λ g t. refusal_awaited looks s earlier followed g t f n h)
+  line_board (line.Answered a i given) h told_now = same_board (line.Answered a i given) (λ held. held_behind (answered_held a i given h) kept.history.living true refl held) (λ f x. refl) (λ f o. refl) (λ f. refl) (λ f t. answer_awaited looks s earlier followed f t a i given h)
 
--- the board shows of each family what the card shows, or the family is stale, or a later reading of it was refused
-board_true : ShowsCard → (s : Script) (lines : List Line) → keeps_rules s ≡ true → serves s ≡ true → are_followed s lines ≡ true → are_told s lines ≡ true → BoardTrue s lines
-board_true shows s [] rules served followed told = first_true (seen s []) all_families refl
-board_true shows s (l ∷ earlier) rules served followed told =
+-- the board shows of each family what the card shows, or the family is stale, or a later reading of it was refused, or an edit's publication is
+-- awaited
+board_true : KeptAgrees → KeptLooksBack → PlansForCard → PlansMakeEdits → ShowsCard → (s : Script) (lines : List Line) → keeps_rules s ≡ true → serves s ≡ true → are_followed s lines ≡ true → are_told s lines ≡ true → BoardTrue s lines
+board_true agrees looks plans makes shows s [] rules served followed told = first_true (seen s []) all_families refl
+board_true agrees looks plans makes shows s (l ∷ earlier) rules served followed told =
     let p = and_parts (are_followed s earlier) (is_followed s (kept_of s earlier) l) followed in
     let q = and_parts (are_told s earlier) (is_told s (world_of s earlier) (kept_of s earlier) l) told in
-    line_board shows s earlier rules served p.0 q.0 (board_true shows s earlier rules served p.0 q.0) l p.1 q.1
+    line_board agrees looks plans makes shows s earlier rules served p.0 q.0 (board_true agrees looks plans makes shows s earlier rules served p.0 q.0) l p.1 q.1
 
 -- ---- the rule of rest
 
@@ -552,6 +597,9 @@ quiet_none k h living =
     let q = and_parts (not (list_any has_begun k.jobs)) (not (has_work k)) h in
     no_open (is_starting k) (is_some k.owed) (is_some k.history.announced) (is_some (first_stale k.standings)) (no_work k.history.owes_reset k.history.living (has_work_alive k) q.1 living)
 
+quiet_begun : (k : Kept) → is_quiet k ≡ true → list_any has_begun k.jobs ≡ false
+quiet_begun k h = not-true (list_any has_begun k.jobs) (and_parts (not (list_any has_begun k.jobs)) (not (has_work k)) h).0
+
 shown_or_known : (shown known : Bool) → (shown ≡ true) ⊎ (known ≡ true) → elim shown [ true ↦ true | false ↦ known ] ≡ true
 shown_or_known true known h = refl
 shown_or_known false known (inl h) = dead h
@@ -567,15 +615,16 @@ module _ (b : Seen) where
   refusal_right : (st : Standing) (r : ℕ) → st.refused ≡ Some r → st.renewed < r → b.changed st.family < r → is_refusal_known b.changed st ≡ true
   refusal_right st r at h g = ap (has_value (nat_lt (max st.renewed (b.changed st.family)))) at ∙ both_less st.renewed (b.changed st.family) r h g
 
-  known_right : (st : Standing) (n : ℕ) → is_stale st ≡ false → IsKnown b st n → is_shown_right b.world (λ n. text_of b.count n b.texts) b.changed st (Some n) ≡ true
-  known_right st n fresh (current h) = shown_or_known (same_shown (shown_in b.world st.family) (Some (text_of b.count n b.texts))) (is_refusal_known b.changed st) (inl h)
-  known_right st n fresh (stale at h) = dead (sym fresh ∙ ap is_some at)
-  known_right st n fresh (refused r at h g) = shown_or_known (same_shown (shown_in b.world st.family) (Some (text_of b.count n b.texts))) (is_refusal_known b.changed st) (inr (refusal_right st r at h g))
+  known_right : (st : Standing) (n : ℕ) → is_stale st ≡ false → list_any has_begun b.kept.jobs ≡ false → IsKnown b st n → is_shown_right b.world (λ n. text_of b.count n b.texts) b.changed st (Some n) ≡ true
+  known_right st n fresh none (current h) = shown_or_known (same_shown (shown_in b.world st.family) (Some (text_of b.count n b.texts))) (is_refusal_known b.changed st) (inl h)
+  known_right st n fresh none (stale at h) = dead (sym fresh ∙ ap is_some at)
+  known_right st n fresh none (awaited h) = absurd (none_decided b.script b.kept h.who st.family none h.decided)
+  known_right st n fresh none (refused r at h g) = shown_or_known (same_shown (shown_in b.world st.family) (Some (text_of b.count n b.texts))) (is_refusal_known b.changed st) (inr (refusal_right st r at h g))
 
   -- while an epoch lives
-  one_right : (st : Standing) → is_stale st ≡ false → b.holds ≡ true → (o : Option ℕ) → IsShown b st o → is_shown_right b.world (λ n. text_of b.count n b.texts) b.changed st o ≡ true
-  one_right st fresh held None t = refl
-  one_right st fresh held (Some n) t = known_right st n fresh (t.known held)
+  one_right : (st : Standing) → is_stale st ≡ false → list_any has_begun b.kept.jobs ≡ false → b.holds ≡ true → (o : Option ℕ) → IsShown b st o → is_shown_right b.world (λ n. text_of b.count n b.texts) b.changed st o ≡ true
+  one_right st fresh none held None t = refl
+  one_right st fresh none held (Some n) t = known_right st n fresh none (t.known held)
 
   fresh_first : (st : Standing) (rest : List Standing) → is_some (first_stale (st ∷ rest)) ≡ false → (is_stale st ≡ false) × (is_some (first_stale rest) ≡ false)
   fresh_first st rest h = by_stale (is_stale st) refl h
@@ -584,11 +633,11 @@ module _ (b : Seen) where
       by_stale true e q = dead (sym q)
       by_stale false e q = (e, q)
 
-  all_right : (standings : List Standing) → is_some (first_stale standings) ≡ false → b.holds ≡ true → AllTrue b standings → list_all IsRight standings ≡ true
-  all_right [] fresh held t = refl
-  all_right (st ∷ rest) fresh held t =
+  all_right : (standings : List Standing) → is_some (first_stale standings) ≡ false → list_any has_begun b.kept.jobs ≡ false → b.holds ≡ true → AllTrue b standings → list_all IsRight standings ≡ true
+  all_right [] fresh none held t = refl
+  all_right (st ∷ rest) fresh none held t =
       let q = fresh_first st rest fresh in
-      and_from (IsRight st) (list_all IsRight rest) (one_right st q.0 held st.shown t.0.shows) (all_right rest q.1 held t.1)
+      and_from (IsRight st) (list_all IsRight rest) (one_right st q.0 none held st.shown t.0.shows) (all_right rest q.1 none held t.1)
 
 -- where nothing is shown
 none_right : (b : Seen) (standings : List Standing) → AllHidden standings → list_all (IsRight b) standings ≡ true
@@ -606,7 +655,7 @@ RestRight changed w k texts = elim (is_quiet k) [ false ↦ true | true ↦ list
 -- the turn has ended: an epoch lives, and no reset is due, or the end of the last one is told
 rest_by : (s : Script) (lines : List Line) → are_followed s lines ≡ true → IsDone s (kept_of s lines) → is_quiet (kept_of s lines) ≡ true → BoardTrue s lines → (living : Bool) → (kept_of s lines).history.living ≡ living → list_all (IsRight (seen s lines)) (kept_of s lines).standings ≡ true
 rest_by s lines followed done quiet t true e =
-    all_right (seen s lines) (kept_of s lines).standings (quiet_none (kept_of s lines) quiet e)
+    all_right (seen s lines) (kept_of s lines).standings (quiet_none (kept_of s lines) quiet e) (quiet_begun (kept_of s lines) quiet)
     (and_from (kept_of s lines).history.living (not (goes_to_reset (kept_of s lines).turn.stage)) e (ap not (no_reset_stage (kept_of s lines).turn.work (kept_of s lines).turn.stage done.reset))) t
 rest_by s lines followed done quiet t false e = none_right (seen s lines) (kept_of s lines).standings (hidden_of s lines followed e done.ended)
 
@@ -622,5 +671,5 @@ state_rest s lines t =
     (subst (λ (x : World). RestRight (changed_in s lines) x (kept_of s lines) (texts_of lines)) (sym (state_world s lines)) t))
 
 -- at the end of each turn, where nothing is open the board shows what the card shows, or a refusal is known
-pub rest_right : ShowsCard → (s : Script) (lines : List Line) → keeps_rules s ≡ true → serves s ≡ true → are_followed s lines ≡ true → are_told s lines ≡ true → ends_turn (due s (kept_of s lines)) ≡ true → is_rest_right (state_of s lines) (changed_in s lines) ≡ true
-rest_right shows s lines rules served followed told ends = state_rest s lines (rest_known s lines followed (turn_done s (kept_of s lines) ends) (board_true shows s lines rules served followed told))
+pub rest_right : KeptAgrees → KeptLooksBack → PlansForCard → PlansMakeEdits → ShowsCard → (s : Script) (lines : List Line) → keeps_rules s ≡ true → serves s ≡ true → are_followed s lines ≡ true → are_told s lines ≡ true → ends_turn (due s (kept_of s lines)) ≡ true → is_rest_right (state_of s lines) (changed_in s lines) ≡ true
+rest_right agrees looks plans makes shows s lines rules served followed told ends = state_rest s lines (rest_known s lines followed (turn_done s (kept_of s lines) ends) (board_true agrees looks plans makes shows s lines rules served followed told))

@@ -137,3 +137,30 @@ begun_marks s k a b h =
     let l : Line = line.Turn (suc a) in
     let o = own_begun s l k (suc a) b (self (suc a)) h in
     o.1.1 ∙ ap (λ (x : Option Begun). option_map (begun_with (decision_at s l k).attempt) (option_map (near s l k) x)) o.1.0
+
+-- ---- a line that is no mark, begins nothing and sends nothing
+
+abbrev pub keeps_begun : Line → Bool
+keeps_begun (line.Turn x) = false
+keeps_begun (line.Begin x n) = false
+keeps_begun (line.Exchange x c r) = false
+keeps_begun (line.Failed x c d) = false
+keeps_begun (line.Reset x) = true
+keeps_begun (line.ResetFailed x) = true
+keeps_begun (line.World x e) = true
+keeps_begun (line.Published n f e v text) = true
+keeps_begun (line.EpochEnd n e v) = true
+keeps_begun (line.Refused f n) = true
+keeps_begun (line.Answered x n given) = true
+
+pub record IsNear (s : Script) (l : Line) (k : Kept) (i : ℕ) (now : Begun) : Type 0 where
+  pub old : Begun
+  pub here : begun_of i k.jobs ≡ Some old
+  pub is : now ≡ near s l k old
+
+pub near_of : (s : Script) (l : Line) (k : Kept) (i : ℕ) (now : Begun) → keeps_begun l ≡ true → Came s l k i now → IsNear s l k i now
+near_of s l k i now kept (stays b here other is) = record { old = b; here = here; is = is }
+near_of s l k i now kept (marks a b mine e here is) = absurd (true≢false (sym kept ∙ ap keeps_begun e))
+near_of s l k i now kept (begins a n mine e is) = absurd (true≢false (sym kept ∙ ap keeps_begun e))
+near_of s l k i now kept (exchanges a c r b mine e here is) = absurd (true≢false (sym kept ∙ ap keeps_begun e))
+near_of s l k i now kept (fails a c d b mine e here is) = absurd (true≢false (sym kept ∙ ap keeps_begun e))

@@ -1,11 +1,11 @@
 -- What a command does to the files of the card in the slot: nothing, unless it is an UPDATE that succeeded; and an UPDATE RECORD on the
 -- basic channel writes one row of the file that is current there.
-use Rattle.std.proofs.Common.{◌≡◌, ℕ, ◌-◌, ◌==◌, ◌&&◌, ◌||◌, Bool, true, false, if◌then◌else◌, Option, Some, None, List, [], refl, sym, ap, ◌∙◌, subst, true≢false}
+use Rattle.std.proofs.Common.{◌≡◌, ℕ, ◌-◌, ◌==◌, ◌&&◌, ◌||◌, Bool, true, false, if◌then◌else◌, Option, Some, None, is_some, List, refl, sym, ap, ◌∙◌, subst, true≢false}
 use Rattle.std.specs.Prelude.{find, unwrap_or, option_map, is_none}
-use Rattle.std.proofs.lemmas.Bool.{and_parts, and_from, eqb-true}
+use Rattle.std.proofs.lemmas.Bool.{and_parts, and_from, eqb-true, eq-eqb}
 use Rattle.apdu.specs.Values.{CommandValue, ResponseValue}
 use Rattle.apdu.specs.Words.{same_bytes}
-use Rattle.apdu.specs.Apdu.{is_update_ins, is_success, has_more, fetch_ins, update_record_ins, wants_more}
+use Rattle.apdu.specs.Apdu.{is_update_ins, is_success, has_more, fetch_ins, same_response, update_record_ins, wants_more}
 use Rattle.apdu.specs.declared.class.ClassKind.TheVariants.{Plain}
 use Rattle.fcp.specs.Content.{Content, missing, with_row}
 use Rattle.card_model.specs.declared.world.FileState.{FileState}
@@ -27,11 +27,11 @@ use Rattle.refresh_cmd.specs.Proactive.{read_proactive}
 use Rattle.editor.specs.Editing.{card_need}
 use Rattle.rules.specs.State.{view_in, content_on}
 use Rattle.rules.specs.Rules.{has_right_response}
+use Rattle.performed.proofs.CalmCards.{step_answers}
 use Rattle.performed.proofs.CalmLent.{steps_card, card_there}
-use Rattle.performed.proofs.SteadyShown.{AllUnarmed, told_status, inside_unarmed, none_armed, files_stay}
 use Rattle.performed.proofs.EditsFinal.{update_final}
 
--- ---- FETCH
+-- ---- what is done
 
 acted_of : (sw : ℕ) → is_success sw ≡ true → acted sw ≡ true
 acted_of sw h = by_success (is_success sw) h
@@ -40,27 +40,26 @@ acted_of sw h = by_success (is_success sw) h
     by_success true e = refl
     by_success false e = absurd (true≢false (sym e))
 
-no_fetch_of : (ins n : ℕ) (b : Bool) → ins ≡ n → (n == fetch_ins) ≡ false → ((ins == fetch_ins) && b) ≡ false
-no_fetch_of ins n b e h = ap (λ (i : ℕ). (i == fetch_ins) && b) e ∙ ap (λ (x : Bool). x && b) h
+-- a command that is no UPDATE that was done, and handed over no change
+files_stay : (changes : List Change) (card : CardState) (c : CommandValue) (p : CardState × ResponseValue) → (is_update_ins c.ins && is_success p.1.sw) ≡ false → ((c.ins == fetch_ins) && is_success p.1.sw) ≡ false → Effect changes card c p → p.0.files ≡ card.files
+files_stay changes card c p h none (quiet k e) = k.files
+files_stay changes card c p h none (refuses_select number place channel on e d) = d.keeps.files
+files_stay changes card c p h none (reads_record number place channel on e d) = d.keeps.files
+files_stay changes card c p h none (reads_binary number place channel on e d) = d.keeps.files
+files_stay changes card c p h none (gets number place channel on e d) = d.keeps.files
+files_stay changes card c p h none (selects number place channel on e d) = d.files
+files_stay changes card c p h none (updates_record number place channel on e d) = absurd (true≢false (sym (and_from (is_update_ins c.ins) (is_success p.1.sw) (ap is_update_ins e) d.updates.status) ∙ h))
+files_stay changes card c p h none (updates_binary number place channel on e d) = absurd (true≢false (sym (and_from (is_update_ins c.ins) (is_success p.1.sw) (ap is_update_ins e) d.updates.status) ∙ h))
+files_stay changes card c p h none (opens e d) = d.files
+files_stay changes card c p h none (closes e d) = d.files
+files_stay changes card c p h none (hands_over e d) = absurd (true≢false (sym (and_from (c.ins == fetch_ins) (is_success p.1.sw) (eq-eqb c.ins fetch_ins e) (ap (λ (x : ResponseValue). is_success x.sw) d.response)) ∙ none))
 
--- no command is handed over where none is armed
-no_fetch : (changes : List Change) (card : CardState) (c : CommandValue) (p : CardState × ResponseValue) → card.armed ≡ [] → Effect changes card c p → ((c.ins == fetch_ins) && is_success p.1.sw) ≡ false
-no_fetch changes card c p none (quiet k q) = by_ins (c.ins == fetch_ins) refl (is_success p.1.sw) refl
-  where
-    by_ins : (a : Bool) → (c.ins == fetch_ins) ≡ a → (b : Bool) → is_success p.1.sw ≡ b → (a && b) ≡ false
-    by_ins false e b h = refl
-    by_ins true e false h = refl
-    by_ins true e true h = absurd (true≢false (sym (and_from (acts c.ins) (acted p.1.sw) (ap acts (eqb-true c.ins fetch_ins e)) (acted_of p.1.sw h)) ∙ q.acts))
-no_fetch changes card c p none (refuses_select number place channel on e d) = no_fetch_of c.ins _ (is_success p.1.sw) e refl
-no_fetch changes card c p none (reads_record number place channel on e d) = no_fetch_of c.ins _ (is_success p.1.sw) e refl
-no_fetch changes card c p none (reads_binary number place channel on e d) = no_fetch_of c.ins _ (is_success p.1.sw) e refl
-no_fetch changes card c p none (gets number place channel on e d) = no_fetch_of c.ins _ (is_success p.1.sw) e refl
-no_fetch changes card c p none (selects number place channel on e d) = no_fetch_of c.ins _ (is_success p.1.sw) e refl
-no_fetch changes card c p none (updates_record number place channel on e d) = no_fetch_of c.ins _ (is_success p.1.sw) e refl
-no_fetch changes card c p none (updates_binary number place channel on e d) = no_fetch_of c.ins _ (is_success p.1.sw) e refl
-no_fetch changes card c p none (opens e d) = no_fetch_of c.ins _ (is_success p.1.sw) e refl
-no_fetch changes card c p none (closes e d) = no_fetch_of c.ins _ (is_success p.1.sw) e refl
-no_fetch changes card c p none (hands_over e d) = absurd (none_armed changes card d.change none d.armed)
+same_status : (a b : ResponseValue) → same_response a b ≡ true → a.sw ≡ b.sw
+same_status a b h = eqb-true a.sw b.sw (and_parts (same_bytes a.body b.body) (a.sw == b.sw) h).1
+
+-- the card in the slot gave the status
+told_status : (w : World) (a : ℕ) (c : CommandValue) (r : ResponseValue) (card : CardState) → card_inside w ≡ Some card → has_right_response w (line.Exchange a c r) ≡ true → r.sw ≡ (on_card w.changes card c).1.sw
+told_status w a c r card inside right = same_status r (step w c).1 (and_parts (is_some (card_inside w)) (same_response r (step w c).1) right).1 ∙ ap (λ (x : ResponseValue). x.sw) (step_answers w card c inside)
 
 -- ---- the card in the slot
 
@@ -73,19 +72,6 @@ pub record Answered (w : World) (c : CommandValue) (r : ResponseValue) : Type 0 
   pub fetched : ((c.ins == fetch_ins) && is_success (on_card w.changes card c).1.sw) ≡ false
   pub does : Effect w.changes card c (on_card w.changes card c)
 
-pub answered_of : (w : World) (a : ℕ) (c : CommandValue) (r : ResponseValue) → AllUnarmed w.cards → has_right_response w (line.Exchange a c r) ≡ true → Answered w c r
-answered_of w a c r unarmed right =
-    let t = card_there w c r right in
-    record {
-      card = t.0;
-      inside = t.1;
-      behind = steps_card w t.0 c t.1;
-      status = told_status w a c r t.0 t.1 right;
-      fetched = no_fetch w.changes t.0 c (on_card w.changes t.0 c) (inside_unarmed w t.0 unarmed t.1) (effect w.changes t.0 c);
-      does = effect w.changes t.0 c;
-    }
-
--- to one that was no FETCH that succeeded
 pub answered_by : (w : World) (a : ℕ) (c : CommandValue) (r : ResponseValue) → ((c.ins == fetch_ins) && is_success r.sw) ≡ false → has_right_response w (line.Exchange a c r) ≡ true → Answered w c r
 answered_by w a c r none right =
     let t = card_there w c r right in

@@ -94,25 +94,26 @@ decides_edit k a b o f e h = by_edit (edit_is o f e h)
 
 -- ---- a turn that ends, or that begins an operation, has nothing to write and no edit that was refused
 
+-- what is due of an edit whose turn it is
+pub edit_answers : (s : Script) (k : Kept) (i : ℕ) (b : Begun) (f : ℕ) (e : Edit) → k.turn.actor ≡ Some i → begun_of i k.jobs ≡ Some b → edit_of (operation_at s i b.index) ≡ Some (f, e) → due_answer s k ≡ edit_answer b k.turn b.editing.decided
+edit_answers s k i b f e actor here op =
+    let x = edit_is (operation_at s i b.index) f e op in
+    ap (answer_of_actor s k) actor
+    ∙ ap (λ (o : Option Begun). answer_of_begun k i o (begun_operation s i o)) here
+    ∙ ap (λ (o : Option Operation). answer_of_begun k i (Some b) o) x.is
+    ∙ by_op x.op (edits_by x.op f e x.edits)
+  where
+    by_op : (op : Operation) → Edits op f e → answer_of k i (job_of i k.jobs) b op ≡ edit_answer b k.turn b.editing.decided
+    by_op op (sets at name number is) = subst (λ (x : Operation). answer_of k i (job_of i k.jobs) b x ≡ edit_answer b k.turn b.editing.decided) (sym is) refl
+    by_op op (clears at is) = subst (λ (x : Operation). answer_of k i (job_of i k.jobs) b x ≡ edit_answer b k.turn b.editing.decided) (sym is) refl
+
 module _ (s : Script) (w : World) (k : Kept) (t : Edited s w k) (done : IsDone s k) where
   pub done_unfresh : (i : ℕ) → IsFresh k.turn i → ⊥
   done_unfresh i q = true≢false (sym (sends_still s w k q.work (t.active q.work q.goes)) ∙ ap is_some done.command)
 
-  pub answers_edit : (i : ℕ) (b : Begun) (f : ℕ) (e : Edit) → k.turn.actor ≡ Some i → begun_of i k.jobs ≡ Some b → edit_of (operation_at s i b.index) ≡ Some (f, e) → due_answer s k ≡ edit_answer b k.turn b.editing.decided
-  answers_edit i b f e actor here op =
-      let x = edit_is (operation_at s i b.index) f e op in
-      ap (answer_of_actor s k) actor
-      ∙ ap (λ (o : Option Begun). answer_of_begun k i o (begun_operation s i o)) here
-      ∙ ap (λ (o : Option Operation). answer_of_begun k i (Some b) o) x.is
-      ∙ by_op x.op (edits_by x.op f e x.edits)
-    where
-      by_op : (op : Operation) → Edits op f e → answer_of k i (job_of i k.jobs) b op ≡ edit_answer b k.turn b.editing.decided
-      by_op op (sets at name number is) = subst (λ (x : Operation). answer_of k i (job_of i k.jobs) b x ≡ edit_answer b k.turn b.editing.decided) (sym is) refl
-      by_op op (clears at is) = subst (λ (x : Operation). answer_of k i (job_of i k.jobs) b x ≡ edit_answer b k.turn b.editing.decided) (sym is) refl
-
   pub done_unrefused : (i : ℕ) (b : Begun) (f : ℕ) (e : Edit) → begun_of i k.jobs ≡ Some b → edit_of (operation_at s i b.index) ≡ Some (f, e) → b.editing.decided ≡ None → k.turn.actor ≡ Some i → is_some k.turn.outcome ≡ true → ⊥
   done_unrefused i b f e here op d actor h =
-      true≢false (sym (refused_answers k b d h) ∙ ap is_some (sym (answers_edit i b f e actor here op)) ∙ ap is_some done.answer)
+      true≢false (sym (refused_answers k b d h) ∙ ap is_some (sym (edit_answers s k i b f e actor here op)) ∙ ap is_some done.answer)
 
 -- ---- what a line moves
 
@@ -158,7 +159,7 @@ pub record Writer (s : Script) (k : Kept) : Type 0 where
   pub edit : Edit
   pub op : edit_of (operation_at s who begun.index) ≡ Some (family, edit)
 
-writes_what : (o : Option Operation) → is_writer o ≡ true → (f : ℕ) × ((e : Edit) × (edit_of o ≡ Some (f, e)))
+pub writes_what : (o : Option Operation) → is_writer o ≡ true → (f : ℕ) × ((e : Edit) × (edit_of o ≡ Some (f, e)))
 writes_what None h = never h
 writes_what (Some (operation.Set f at name number)) h = (f, (edit.Set at (record { name = name; number = number }), refl))
 writes_what (Some (operation.Clear f at)) h = (f, (edit.Clear at, refl))

@@ -40,11 +40,12 @@ use Rattle.performed.proofs.CalmSends.{never}
 use Rattle.performed.proofs.EditsPlan.{next_at, HasFirst, has_first, plan_files}
 use Rattle.performed.proofs.EditsSends.{is_book}
 use Rattle.performed.proofs.EditsSteps.{file_of_place}
-use Rattle.performed.proofs.EditsState.{files_in, is_over, IsFresh, IsWriting, EditAt, unplanned, writing, refused, finished, begins, Allowed, IsActive}
+use Rattle.performed.proofs.EditsState.{files_in, is_over, IsFresh, IsWriting, EditAt, unplanned, writing, refused, finished, past, begins, Allowed, IsActive}
+use Rattle.performed.proofs.EpochPast.{IsPast, past_dead}
 
 -- ---- an edit that was refused owes an answer
 
-card_some : (epoch : Option ℕ) (b : Begun) (o : Option Answer) → is_some o ≡ true → is_some (with_card epoch b o) ≡ true
+pub card_some : (epoch : Option ℕ) (b : Begun) (o : Option Answer) → is_some o ≡ true → is_some (with_card epoch b o) ≡ true
 card_some None b o h = refl
 card_some (Some epoch) b o h = by_ended b.ended (is_lost b.ended b.editing.lost)
   where
@@ -102,6 +103,7 @@ pub record IsBegun (s : Script) (w : World) (k new : Kept) (i f : ℕ) (e : Edit
   pub unsent : new.turn.updated ≡ false
   pub work : new.turn.work ≡ d.work
   pub lives : (o : Option ℕ) → lives_in new.history o ≡ lives_in k.history o
+  pub over : (o : Option ℕ) → IsPast k.history o → IsPast new.history o
   pub lacks : (need : Need) → lacking_key new.history i new.sessions need ≡ lacking_key k.history i k.sessions need
   pub here : begun_of i new.jobs ≡ Some now
   pub editing : now.editing ≡ with_attempt d.attempt old
@@ -149,6 +151,7 @@ module _ (s : Script) (w : World) (k new : Kept) (i f : ℕ) (e : Edit) (book : 
       by_edit (writing a h q) = writing a h (still_writing old.decided a q)
       by_edit (refused x actor came) = absurd (t.unrefused x actor came)
       by_edit (finished x lives owed) = finished x (t.lives epoch ∙ lives) owed
+      by_edit (past x) = past (t.over epoch x)
 
   -- no attempt begins
   editing_same : d.attempt ≡ None → now.editing ≡ old
@@ -191,28 +194,30 @@ module _ (s : Script) (w : World) (k new : Kept) (i f : ℕ) (e : Edit) (book : 
 
   -- ---- behind the deciding success
 
-  owed_by : (b : Bool) → is_some (owed_update true old) ≡ b → is_some old.decided ≡ true → d ≡ decides (if b then writes else reads_first k.files (family_paths f)) → Begins
-  owed_by false o dec x = reading_by (first_missing k.files (family_paths f)) x
-  owed_by true o dec x = record { edit = same_edit (ap (λ (y : Decision). y.attempt) x); active = λ q. by_edit t.before }
+  owed_by : (b : Bool) → is_some (owed_update true old) ≡ b → is_some old.decided ≡ true → lives_in k.history epoch ≡ true → d ≡ decides (if b then writes else reads_first k.files (family_paths f)) → Begins
+  owed_by false o dec living x = reading_by (first_missing k.files (family_paths f)) x
+  owed_by true o dec living x = record { edit = same_edit (ap (λ (y : Decision). y.attempt) x); active = λ q. by_edit t.before }
     where
       by_edit : EditAt w k i f e epoch old → IsActive s w new
       by_edit (unplanned z n) = never (sym (ap is_some n) ∙ dec)
       by_edit (writing z y q) = active_old (ap (λ (y : Decision). y.attempt) x) z y q
       by_edit (refused z actor came) = absurd (t.unrefused z actor came)
       by_edit (finished z lives owed) = never (sym (ap is_some owed) ∙ o)
+      by_edit (past z) = never (sym (past_dead k.history epoch z) ∙ living)
 
   -- ---- before it
 
   module _ (none : old.decided ≡ None) where
-    goes_by : (a : Attempt) → old.attempt ≡ Some a → (b : Bool) → d ≡ decides (if b then writes else rests) → Begins
-    goes_by a h true x = record { edit = same_edit (ap (λ (y : Decision). y.attempt) x); active = λ q. by_edit t.before }
+    goes_by : (a : Attempt) → old.attempt ≡ Some a → lives_in k.history epoch ≡ true → (b : Bool) → d ≡ decides (if b then writes else rests) → Begins
+    goes_by a h living true x = record { edit = same_edit (ap (λ (y : Decision). y.attempt) x); active = λ q. by_edit t.before }
       where
         by_edit : EditAt w k i f e epoch old → IsActive s w new
         by_edit (unplanned z n) = absurd (let q : Some a ≡ None = sym h ∙ z in cc)
         by_edit (writing z y q) = active_old (ap (λ (y : Decision). y.attempt) x) z y q
         by_edit (refused z actor came) = absurd (t.unrefused z actor came)
         by_edit (finished z lives owed) = never (sym (ap is_some none) ∙ z)
-    goes_by a h false x = resting rests x refl
+        by_edit (past z) = never (sym (past_dead k.history epoch z) ∙ living)
+    goes_by a h living false x = resting rests x refl
 
     module _ (plan : Plan) (living : lives_in k.history epoch ≡ true) (x : d ≡ record { work = writes; attempt = Some (planned f plan (edit_paths k.files f)) }) (lack : first_lack k.history i k.sessions k.files f (plan_updates plan) ≡ None) where
       abbrev made : Attempt
@@ -311,7 +316,7 @@ module _ (s : Script) (w : World) (k new : Kept) (i f : ℕ) (e : Edit) (book : 
     plans_by (Ok plan) living x = begins_by plan (first_lack k.history i k.sessions k.files f (plan_updates plan)) refl living x
 
     attempts_by : (o : Option Attempt) → old.attempt ≡ o → lives_in k.history epoch ≡ true → d ≡ attempts k i f e o (edit_paths k.files f) → Begins
-    attempts_by (Some a) h living x = goes_by a h (is_some (next_update a)) x
+    attempts_by (Some a) h living x = goes_by a h living (is_some (next_update a)) x
     attempts_by None h living x = plans_by (family_plan f e (view_of_files k.files)) living x
 
     missing_by : (o : Option (List ℕ)) → lives_in k.history epoch ≡ true → d ≡ elim o [ Some p ↦ decides (reads p) | None ↦ attempts k i f e old.attempt (edit_paths k.files f) ] → Begins
@@ -320,7 +325,7 @@ module _ (s : Script) (w : World) (k new : Kept) (i f : ℕ) (e : Edit) (book : 
 
   decided_by : (o : Option Decided) → old.decided ≡ o → lives_in k.history epoch ≡ true → d ≡ elim o [ None ↦ undecided_work k i f e old.attempt | Some q ↦ decides (decided_work k f old) ] → Begins
   decided_by None h living x = missing_by h (first_missing k.files (edit_paths k.files f)) living x
-  decided_by (Some q) h living x = owed_by (is_some (owed_update true old)) refl (ap is_some h) x
+  decided_by (Some q) h living x = owed_by (is_some (owed_update true old)) refl (ap is_some h) living x
 
   living_by : (b : Bool) → lives_in k.history epoch ≡ b → d ≡ elim b [ true ↦ edit_work k i f e old | false ↦ decides rests ] → Begins
   living_by true h x = decided_by old.decided refl h x

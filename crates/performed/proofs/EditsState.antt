@@ -32,6 +32,7 @@ use Rattle.rules.specs.Sessions.{lacking_key}
 use Rattle.rules.specs.After.{edit_of, facts_of, kept_after}
 use Rattle.rules.specs.State.{view_in}
 use Rattle.performed.proofs.CalmKinds.{IsExchangeOf}
+use Rattle.performed.proofs.EpochPast.{IsPast, past_stays}
 use Rattle.performed.proofs.EditsPlan.{Place, update_at, sent_at, is_back, files_at, next_at}
 
 -- ---- what is known of an edit
@@ -78,6 +79,8 @@ pub data EditAt (w : World) (k : Kept) (i f : ℕ) (e : Edit) (epoch : Option �
   refused : editing.decided ≡ None → k.turn.actor ≡ Some i → is_some k.turn.outcome ≡ true → EditAt w k i f e epoch editing
   -- decided, and nothing is left to send
   finished : is_some editing.decided ≡ true → lives_in k.history epoch ≡ true → owed_of true editing.attempt ≡ None → EditAt w k i f e epoch editing
+  -- its epoch has ended
+  past : IsPast k.history epoch → EditAt w k i f e epoch editing
 
 pub next_is : (w : World) (k : Kept) (i f : ℕ) (e : Edit) (epoch : Option ℕ) (decided : Option Decided) (a : Attempt) (t : IsWriting w k i f e epoch decided a) → next_update a ≡ Some t.update
 next_is w k i f e epoch decided a t = ap (slice_get (plan_updates a.plan)) t.sent ∙ next_at a.plan t.place t.update t.at
@@ -125,11 +128,21 @@ pub record Edited (s : Script) (w : World) (k : Kept) : Type 0 where
 
 -- ---- what a line does to every edit
 
--- what it leaves, for the edit of an actor
+-- what it leaves, for the edit of an actor, where it ends no epoch
 pub record Leaves (s : Script) (l : Line) (w v : World) (k : Kept) (i f : ℕ) : Type 0 where
   pub files : (rest : List (List ℕ)) → moves_one (facts_of s l k).touch (family_paths f ++ rest) ≡ false → files_in v f ≡ files_in w f
   pub lives : (epoch : Option ℕ) → lives_in k.history epoch ≡ true → lives_in (kept_after s l k).history epoch ≡ true
   pub refused : k.turn.actor ≡ Some i → is_some k.turn.outcome ≡ true → ((kept_after s l k).turn.actor ≡ Some i) × (is_some (kept_after s l k).turn.outcome ≡ true)
+
+-- what is owed no more stays so
+pub owed_moved : (t : Touch) (d : Option Decided) (o : Option Attempt) → is_some d ≡ true → owed_of true o ≡ None → owed_of true (attempt_behind t d o) ≡ None
+owed_moved t d None h q = refl
+owed_moved t None (Some a) h q = absurd (true≢false (sym h))
+owed_moved t (Some d) (Some a) h q = by_moves (moves_one t a.paths)
+  where
+    by_moves : (b : Bool) → owed_of true (if b then Some (record a { moved = true }) else Some a) ≡ None
+    by_moves true = refl
+    by_moves false = q
 
 module _ (s : Script) (l : Line) (w v : World) (k : Kept) (i f : ℕ) (e : Edit) (t : Leaves s l w v k i f) (epoch : Option ℕ) where
   -- the turn goes on in which an attempt was planned of which nothing was sent
@@ -173,23 +186,15 @@ module _ (s : Script) (l : Line) (w v : World) (k : Kept) (i f : ℕ) (e : Edit)
   writing_by editing a true h q m going = moved_by editing a editing.decided refl h m q.lives
   writing_by editing a false h q m going = writing a (attempt_is editing a false h m) (still_writing editing.decided a q m (going a h))
 
-  owed_none : (d : Option Decided) (o : Option Attempt) → is_some d ≡ true → owed_of true o ≡ None → owed_of true (attempt_behind touch d o) ≡ None
-  owed_none d None h q = refl
-  owed_none None (Some a) h q = absurd (true≢false (sym h))
-  owed_none (Some d) (Some a) h q = by_moves (moves_one touch a.paths)
-    where
-      by_moves : (b : Bool) → owed_of true (if b then Some (record a { moved = true }) else Some a) ≡ None
-      by_moves true = refl
-      by_moves false = q
-
   pub finished_left : (editing : Editing) → is_some editing.decided ≡ true → lives_in k.history epoch ≡ true → owed_of true editing.attempt ≡ None → After editing
-  finished_left editing d lives owed = finished d (t.lives epoch lives) (owed_none editing.decided editing.attempt d owed)
+  finished_left editing d lives owed = finished d (t.lives epoch lives) (owed_moved touch editing.decided editing.attempt d owed)
 
   pub edit_left : (editing : Editing) → Goes editing → EditAt w k i f e epoch editing → After editing
   edit_left editing going (unplanned a d) = unplanned (ap (attempt_behind touch editing.decided) a) d
   edit_left editing going (writing a h q) = writing_by editing a (moves_one touch a.paths) h q refl going
   edit_left editing going (refused d actor came) = let r = t.refused actor came in refused d r.0 r.1
-  edit_left editing going (finished d lives owed) = finished d (t.lives epoch lives) (owed_none editing.decided editing.attempt d owed)
+  edit_left editing going (finished d lives owed) = finished d (t.lives epoch lives) (owed_moved touch editing.decided editing.attempt d owed)
+  edit_left editing going (past x) = past (past_stays l k.history epoch x)
 
 -- ---- what moves nothing
 

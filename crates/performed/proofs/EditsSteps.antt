@@ -537,6 +537,12 @@ module _ (s : Script) (w : World) (k : Kept) (work : k.turn.work ≡ writes) (t 
       on_ext : u.file ≡ 1 → same_bytes (family_path t.family 0) path ≡ false
       on_ext e = ap (λ (n : ℕ). same_bytes (family_path t.family 0) (family_path t.family n)) e ∙ main_apart t.family book
 
+      -- one of the main file decides
+      pub decides_main : u.file ≡ 0 → is_some now_begun.editing.decided ≡ true
+      decides_main e =
+          ap (λ (x : Editing). is_some x.decided)
+          (editing_is ∙ ap (λ (b : Bool). if b then updated_by t.family k.selected (k.history.events + 1) c (sent_update near_editing) else sent_update near_editing) h ∙ main_is true (on_main e))
+
       extended_is : u.file ≡ 1 → (d : Option Decided) → t.begun.editing.decided ≡ d → updated ≡ extended_by c d (sent_update near_editing)
       extended_is e d q = main_is false (on_ext e) ∙ ap (λ (o : Option Decided). extended_by c o (sent_update near_editing)) q
 

@@ -31,7 +31,7 @@ use Rattle.performed.specs.Followed.{are_followed}
 use Rattle.performed.specs.Told.{are_told}
 use Rattle.performed.proofs.CalmCards.{lives_of}
 use Rattle.performed.proofs.CalmGiven.{given_of}
-use Rattle.performed.proofs.CalmRest.{responses_right}
+use Rattle.performed.proofs.CalmAnswers.{responses_right}
 use Rattle.performed.proofs.EditsBegun.{near, Came, stays, marks, begins, exchanges, fails, came}
 use Rattle.performed.proofs.EditsMarks.{IsBegun, turn_begins}
 use Rattle.performed.proofs.EditsScript.{edit_book}
@@ -41,7 +41,8 @@ use Rattle.performed.proofs.ProgressBegins.{Starts}
 use Rattle.performed.proofs.TurnsJobs.{is_own}
 use Rattle.performed.proofs.TurnsSays.{IsDone, BeginsNow}
 use Rattle.performed.proofs.EditsLines.{decides_edit, done_unfresh, done_unrefused, living_lives, IsBare, bare_of, turn_lacks, begin_lacks}
-use Rattle.performed.proofs.EditsState.{unplanned, writing, refused, finished}
+use Rattle.performed.proofs.EditsState.{unplanned, writing, refused, finished, past}
+use Rattle.performed.proofs.EpochPast.{past_stays}
 
 module _ (agrees : KeptAgrees) (plans : PlansForCard) (s : Script) (rules : keeps_rules s ≡ true) (served : serves s ≡ true) (earlier : List Line) (followed : are_followed s earlier ≡ true) (told : are_told s earlier ≡ true) (t : Edited s (world_of s earlier) (kept_of s earlier)) where
   abbrev k : Kept
@@ -84,6 +85,7 @@ module _ (agrees : KeptAgrees) (plans : PlansForCard) (s : Script) (rules : keep
         })
         by_edit (refused d actor came) = absurd (done_unrefused s w k t done i b f e here op d actor came)
         by_edit (finished d h owed) = finished d (lives b.epoch ∙ h) owed
+        by_edit (past x) = past (past_stays l k.history b.epoch x)
 
     rested_now : (i : ℕ) (b now : Begun) (f : ℕ) (e : Edit) → begun_of i k.jobs ≡ Some b → now ≡ near s l k b → edit_of (operation_at s i now.index) ≡ Some (f, e) → EditAt w (kept_after s l k) i f e now.epoch now.editing
     rested_now i b now f e here is op = subst (λ (x : Begun). EditAt w (kept_after s l k) i f e x.epoch x.editing) (sym is) (rested i b f e here (ap (λ (x : Begun). edit_of (operation_at s i x.index)) (sym is) ∙ op))
@@ -102,6 +104,7 @@ module _ (agrees : KeptAgrees) (plans : PlansForCard) (s : Script) (rules : keep
         unsent = bare.unsent;
         work = work;
         lives = lives;
+        over = past_stays l k.history;
         lacks = lacks;
         here = here;
         editing = ap (λ (x : Begun). x.editing) is;
@@ -116,9 +119,9 @@ module _ (agrees : KeptAgrees) (plans : PlansForCard) (s : Script) (rules : keep
       }
 
   -- how far an edit is whose turn begins, and what that turn has to write
-  record TurnEdit (l : Line) (i f : ℕ) (e : Edit) (now : Begun) : Type 0 where
-    edit : EditAt w (kept_after s l k) i f e now.epoch now.editing
-    active : (kept_after s l k).turn.actor ≡ Some i → (kept_after s l k).turn.work ≡ writes → IsActive s w (kept_after s l k)
+  pub record TurnEdit (l : Line) (i f : ℕ) (e : Edit) (now : Begun) : Type 0 where
+    pub edit : EditAt w (kept_after s l k) i f e now.epoch now.editing
+    pub active : (kept_after s l k).turn.actor ≡ Some i → (kept_after s l k).turn.work ≡ writes → IsActive s w (kept_after s l k)
 
   module _ (l : Line) (i f : ℕ) (e : Edit) (book : is_book f ≡ true) (b now : Begun) (work : (kept_after s l k).turn.work ≡ (decision_at s l k).work) (x : IsBegun s w k (kept_after s l k) i f e (decision_at s l k) b.editing b.epoch now) where
     begins_here : TurnEdit l i f e now
@@ -156,7 +159,7 @@ module _ (agrees : KeptAgrees) (plans : PlansForCard) (s : Script) (rules : keep
         refl (record { stage = refl; came = refl; unsent = refl }) refl refl (turn_lacks s k (suc a) (suc a)) there
         (is ∙ ap (λ (x : Editing). begun_with (decision_at s mark k).attempt (record (near s mark k b) { editing = x })) (editing_same mark done quiet_mark mark_lives b.editing)))
 
-    mark_edit : (i : ℕ) (now : Begun) (f : ℕ) (e : Edit) → begun_of i (kept_after s mark k).jobs ≡ Some now → edit_of (operation_at s i now.index) ≡ Some (f, e) → Came s mark k i now → TurnEdit mark i f e now
+    pub mark_edit : (i : ℕ) (now : Begun) (f : ℕ) (e : Edit) → begun_of i (kept_after s mark k).jobs ≡ Some now → edit_of (operation_at s i now.index) ≡ Some (f, e) → Came s mark k i now → TurnEdit mark i f e now
     mark_edit i now f e there op (stays b here other is) = record { edit = rested_now mark done quiet_mark mark_lives i b now f e here is op; active = λ actor h. absurd (own_is a i mark refl other actor) }
     mark_edit i now f e there op (marks c b own l here is) =
         let q : line.Turn (suc c) ≡ line.Turn (suc a) = sym l in
@@ -179,7 +182,7 @@ module _ (agrees : KeptAgrees) (plans : PlansForCard) (s : Script) (rules : keep
     idle_lives None = refl
     idle_lives (Some n) = refl
 
-    idle_edit : (i : ℕ) (now : Begun) (f : ℕ) (e : Edit) → edit_of (operation_at s i now.index) ≡ Some (f, e) → Came s idle k i now → EditAt w (kept_after s idle k) i f e now.epoch now.editing
+    pub idle_edit : (i : ℕ) (now : Begun) (f : ℕ) (e : Edit) → edit_of (operation_at s i now.index) ≡ Some (f, e) → Came s idle k i now → EditAt w (kept_after s idle k) i f e now.epoch now.editing
     idle_edit i now f e op (stays b here other is) = rested_now idle done (λ path. refl) idle_lives i b now f e here is op
     idle_edit i now f e op (marks c b own l here is) = absurd (cc)
     idle_edit i now f e op (begins c n own l is) = absurd (cc)
@@ -208,7 +211,7 @@ module _ (agrees : KeptAgrees) (plans : PlansForCard) (s : Script) (rules : keep
         (λ d actor h. let came = (bare_of s earlier start.bare).came in true≢false (sym h ∙ ap is_some came))
         start.turn bare_now refl refl (begin_lacks s k a n a) there is)
 
-    front_edit : (i : ℕ) (now : Begun) (f : ℕ) (e : Edit) → begun_of i (kept_after s front k).jobs ≡ Some now → edit_of (operation_at s i now.index) ≡ Some (f, e) → Came s front k i now → TurnEdit front i f e now
+    pub front_edit : (i : ℕ) (now : Begun) (f : ℕ) (e : Edit) → begun_of i (kept_after s front k).jobs ≡ Some now → edit_of (operation_at s i now.index) ≡ Some (f, e) → Came s front k i now → TurnEdit front i f e now
     front_edit i now f e there op (stays b here other is) = record { edit = rested_now front now_begins.done (λ path. refl) front_lives i b now f e here is op; active = λ actor h. absurd (front_own other (sym start.turn ∙ actor)) }
       where
         front_own : (is_own i front ≡ false) ⊎ (front ≡ line.Turn zero) → Some a ≡ Some i → ⊥

@@ -170,7 +170,7 @@ module _ (s : Script) (earlier : List Line) (followed : are_followed s earlier �
   line_told (line.Refused g n) f i = quiet_beside (line.Refused g n) (λ e t. refl) i
   line_told (line.EpochEnd n e v) f i = beside_told (line.EpochEnd n e v) (end_told n e v f) i
 
-first_begun : (n i : ℕ) → begun_of i (replicate n first_job) ≡ None
+pub first_begun : (n i : ℕ) → begun_of i (replicate n first_job) ≡ None
 first_begun zero i = refl
 first_begun (suc n) zero = refl
 first_begun (suc n) (suc i) = first_begun n i

@@ -42,11 +42,11 @@ pub record IsDecided (s : Script) (k : Kept) (i f : ℕ) : Type 0 where
 
 -- ---- what was decided stays
 
-with_decided : (o : Option Attempt) (e : Editing) → (with_attempt o e).decided ≡ e.decided
+pub with_decided : (o : Option Attempt) (e : Editing) → (with_attempt o e).decided ≡ e.decided
 with_decided None e = refl
 with_decided (Some a) e = refl
 
-sent_decided : (c : CommandValue) (o : Option Chain) (e : Editing) → (editing_sent c o e).decided ≡ e.decided
+pub sent_decided : (c : CommandValue) (o : Option Chain) (e : Editing) → (editing_sent c o e).decided ≡ e.decided
 sent_decided c (Some chain) e = refl
 sent_decided c None e = by_update (is_update_ins c.ins)
   where
@@ -138,7 +138,7 @@ module _ (s : Script) (k : Kept) (i f : ℕ) (t : IsDecided s k i f) where
       by_test false e = of_other l e lives
 
 -- where it is due: only its answer ends it
-begin_free : (s : Script) (k : Kept) (i n : ℕ) (b : Begun) → is_followed s k (line.Begin i n) ≡ true → begun_of i k.jobs ≡ Some b → ⊥
+pub begin_free : (s : Script) (k : Kept) (i n : ℕ) (b : Begun) → is_followed s k (line.Begin i n) ≡ true → begun_of i k.jobs ≡ Some b → ⊥
 begin_free s k i n b h here =
     let x = begins_now s k i n h in
     true≢false (sym (ap (λ (j : ℕ). is_none (begun_of j k.jobs)) x.same ∙ x.begins.free) ∙ ap is_none here)

@@ -25,16 +25,16 @@ use Rattle.performed.proofs.WantedFamilies.{exchanged_family}
 
 -- ---- the operation that an actor has begun was so before the line
 
-abbrev is_begin : Line → Bool
+abbrev pub is_begin : Line → Bool
 is_begin (line.Begin a n) = true
 is_begin l = false
 
-record IsOld (k : Kept) (i : ℕ) (now : Begun) : Type 0 where
-  old : Begun
-  here : begun_of i k.jobs ≡ Some old
-  index : now.index ≡ old.index
+pub record IsOld (k : Kept) (i : ℕ) (now : Begun) : Type 0 where
+  pub old : Begun
+  pub here : begun_of i k.jobs ≡ Some old
+  pub index : now.index ≡ old.index
 
-old_by : (s : Script) (l : Line) (k : Kept) (i : ℕ) (now : Begun) → is_begin l ≡ false → Came s l k i now → IsOld k i now
+pub old_by : (s : Script) (l : Line) (k : Kept) (i : ℕ) (now : Begun) → is_begin l ≡ false → Came s l k i now → IsOld k i now
 old_by s l k i now none (stays b here other is) = record { old = b; here = here; index = ap (λ (x : Begun). x.index) is }
 old_by s l k i now none (marks a b own e here is) = record { old = b; here = here; index = ap (λ (x : Begun). x.index) is }
 old_by s l k i now none (begins a n own e is) = absurd (true≢false (sym (ap is_begin e) ∙ none))
@@ -43,15 +43,17 @@ old_by s l k i now none (fails a c d b own e here is) = record { old = b; here =
 
 -- ---- what is published for an operation
 
+pub one_pair : (p q : ℕ × Edit) → Some p ≡ Some q → p ≡ q
+one_pair p q h = cc
+
 edit_family : (b : Begun) (q : Option (ℕ × Edit)) (f g : ℕ) (e : Edit) → q ≡ Some (g, e) → family_of_edit b q ≡ Some f → f ≡ g
 edit_family b None f g e is h = absurd (cc)
 edit_family b (Some (f0, e0)) f g e is h = by_over (is_edit_over b.editing) h
   where
     by_over : (x : Bool) → (if x then Some f0 else None) ≡ Some f → f ≡ g
     by_over true q =
-        let pair : (f0, e0) ≡ (g, e) = cc in
         let same : f0 ≡ f = cc in
-        sym same ∙ ap (λ (x : ℕ × Edit). x.0) pair
+        sym same ∙ ap (λ (x : ℕ × Edit). x.0) (one_pair (f0, e0) (g, e) is)
     by_over false q = absurd (cc)
 
 operation_family : (b : Begun) (op : Operation) (f g : ℕ) (e : Edit) → family_edit op ≡ Some (g, e) → family_of_operation b op ≡ Some f → f ≡ g

@@ -40,7 +40,8 @@ use Rattle.rules.specs.Due.{answer_of, answer_of_actor, answer_of_begun, answer_
 use Rattle.rules.specs.Rules.{is_turn_of, is_begun_at, flag, same_answer}
 use Rattle.performed.specs.Followed.{is_given_or_refused, are_followed, is_followed}
 use Rattle.performed.specs.Laws.{ended_at, EndsAreNamed}
-use Rattle.performed.proofs.Handles.{new_handle, all_found, all_mapped, all_still, given_good}
+use Rattle.performed.proofs.Handles.{new_handle, given_good}
+use Rattle.performed.proofs.Lists.{all_found, all_mapped, all_still}
 use Rattle.performed.proofs.ProgressJobs.{changed, mapped}
 use Rattle.performed.proofs.ProgressSound.{sound}
 use Rattle.performed.proofs.ProgressHandles.{given_alive}

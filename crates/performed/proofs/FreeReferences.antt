@@ -23,7 +23,8 @@ use Rattle.rules.specs.Due.{due}
 use Rattle.rules.specs.Rules.{is_turn_of, is_begun_at}
 use Rattle.performed.specs.Served.{serves}
 use Rattle.performed.specs.Followed.{is_followed, are_followed, is_given_or_refused}
-use Rattle.performed.proofs.Handles.{new_handle, all_added, all_mapped, all_still}
+use Rattle.performed.proofs.Handles.{new_handle}
+use Rattle.performed.proofs.Lists.{all_added, all_mapped, all_still}
 use Rattle.performed.proofs.ProgressSound.{IsSoundOption, IsSoundJob, sound}
 use Rattle.performed.proofs.FreeNext.{IsNextOption, IsNext, answers, answered_stays, answered_more, next_of}
 use Rattle.performed.proofs.FreePairs.{drop_at, closes_once, closes_later, open_before, closed_at}

@@ -1,8 +1,8 @@
 -- What a line does to the handles, and what is known where one is given.
-use Rattle.std.proofs.Common.{◌≡◌, ℕ, ◌==◌, ◌&&◌, not, Bool, true, false, if◌then◌else◌, List, [], ◌∷◌, ◌++◌, map, Option, Some, None, refl, sym, ap, ◌∙◌, subst, true≢false}
-use Rattle.std.specs.Prelude.{filter, find, option_map}
+use Rattle.std.proofs.Common.{◌≡◌, ℕ, ◌==◌, ◌&&◌, not, Bool, true, List, Option, Some, None, refl, sym, ap, ◌∙◌, subst, true≢false}
+use Rattle.std.specs.Prelude.{option_map}
 use Rattle.std.specs.List.{list_all}
-use Rattle.std.proofs.lemmas.Bool.{and_parts, and_from, eqb-true}
+use Rattle.std.proofs.lemmas.Bool.{and_parts, eqb-true}
 use Rattle.apdu.specs.Words.{same_number}
 use Rattle.script_reader.specs.declared.types.Script.{Script}
 use Rattle.script_reader.specs.declared.types.Operation.{Operation}
@@ -24,6 +24,7 @@ use Rattle.rules.specs.After.{handles_given}
 use Rattle.rules.specs.Due.{due, due_answer, with_card, with_ended, is_lost, answer_of_outcome, outcome_answer, answer_of_begun, answer_of_actor}
 use Rattle.rules.specs.Rules.{is_turn_of, is_begun_at, same_answer}
 use Rattle.performed.specs.Followed.{is_followed, is_given_or_refused}
+use Rattle.performed.proofs.Lists.{all_added, all_filtered}
 use Rattle.performed.proofs.TurnsSays.{says_of}
 
 -- ---- what holds of each handle
@@ -31,39 +32,16 @@ use Rattle.performed.proofs.TurnsSays.{says_of}
 abbrev pub new_handle : ℕ → ℕ → ℕ → ℕ → Handle
 new_handle actor handle number epoch = record { actor = actor; handle = handle; number = number; epoch = epoch; ended = None }
 
-the_same : (x y : Handle) → Some x ≡ Some y → x ≡ y
-the_same x y e = cc
-
 module _ (good : Handle → Bool) where
-  found_here : (b : Bool) (x h : Handle) (rest : Option Handle) → (if b then Some x else rest) ≡ Some h → good x ≡ true → (rest ≡ Some h → good h ≡ true) → good h ≡ true
-  found_here true x h rest e g later = subst (λ (y : Handle). good y ≡ true) (the_same x h e) g
-  found_here false x h rest e g later = later e
-
-  pub all_found : (p : Handle → Bool) (hs : List Handle) (h : Handle) → list_all good hs ≡ true → find p hs ≡ Some h → good h ≡ true
-  all_found p [] h g e = absurd (cc)
-  all_found p (x ∷ hs) h g e = let q = and_parts (good x) (list_all good hs) g in found_here (p x) x h (find p hs) e q.0 (λ r. all_found p hs h q.1 r)
-
-  kept_here : (b : Bool) (x : Handle) (rest : List Handle) → good x ≡ true → list_all good rest ≡ true → list_all good (if b then x ∷ rest else rest) ≡ true
-  kept_here true x rest g h = and_from (good x) (list_all good rest) g h
-  kept_here false x rest g h = h
-
-  all_filtered : (p : Handle → Bool) (hs : List Handle) → list_all good hs ≡ true → list_all good (filter p hs) ≡ true
-  all_filtered p [] g = refl
-  all_filtered p (x ∷ hs) g = let q = and_parts (good x) (list_all good hs) g in kept_here (p x) x (filter p hs) q.0 (all_filtered p hs q.1)
-
-  pub all_added : (hs : List Handle) (h : Handle) → list_all good hs ≡ true → good h ≡ true → list_all good (hs ++ h ∷ []) ≡ true
-  all_added [] h g e = and_from (good h) true e refl
-  all_added (x ∷ hs) h g e = let q = and_parts (good x) (list_all good hs) g in and_from (good x) (list_all good (hs ++ h ∷ [])) q.0 (all_added hs h q.1 e)
-
   -- where it holds of the one that an answer gives, it holds of all behind the line
   module _ (a epoch : ℕ) (hs : List Handle) (held : list_all good hs ≡ true) where
     opened_good : (handle : ℕ) (aid : List ℕ) (given : Answer) → ((number : ℕ) → given ≡ answer.Opened number → good (new_handle a handle number epoch) ≡ true) → list_all good (handles_after a (operation.OpenChannel handle aid) given epoch hs) ≡ true
-    opened_good handle aid (answer.Opened number) new = all_added (without_handle a handle hs) (new_handle a handle number epoch) (all_filtered (λ h. not (is_handle_of a handle h)) hs held) (new number refl)
+    opened_good handle aid (answer.Opened number) new = all_added good (without_handle a handle hs) (new_handle a handle number epoch) (all_filtered good (λ h. not (is_handle_of a handle h)) hs held) (new number refl)
     opened_good handle aid given new = held
 
     answered_good : (op : Operation) (given : Answer) → ((handle number : ℕ) (aid : List ℕ) → op ≡ operation.OpenChannel handle aid → given ≡ answer.Opened number → good (new_handle a handle number epoch) ≡ true) → list_all good (handles_after a op given epoch hs) ≡ true
     answered_good (operation.OpenChannel handle aid) given new = opened_good handle aid given (λ number e. new handle number aid refl e)
-    answered_good (operation.Close handle) given new = all_filtered (λ h. not (is_handle_of a handle h)) hs held
+    answered_good (operation.Close handle) given new = all_filtered good (λ h. not (is_handle_of a handle h)) hs held
     answered_good op given new = held
 
     place_good : (o : Option Operation) (given : Answer) → ((handle number : ℕ) (aid : List ℕ) → o ≡ Some (operation.OpenChannel handle aid) → given ≡ answer.Opened number → good (new_handle a handle number epoch) ≡ true) → list_all good (elim o [ None ↦ hs | Some op ↦ handles_after a op given epoch hs ]) ≡ true
@@ -73,16 +51,6 @@ module _ (good : Handle → Bool) where
   pub given_good : (s : Script) (l : Line) (epoch : ℕ) (hs : List Handle) → list_all good hs ≡ true → ((a i handle number : ℕ) (aid : List ℕ) → l ≡ line.Answered a i (answer.Opened number) → operation_at s a i ≡ Some (operation.OpenChannel handle aid) → good (new_handle a handle number epoch) ≡ true) → list_all good (handles_given s l epoch hs) ≡ true
   given_good s (line.Answered a i given) epoch hs held new = place_good a epoch hs held (operation_at s a i) given (λ handle number aid e g. new a i handle number aid (ap (λ (x : Answer). line.Answered a i x) g) e)
   given_good s l epoch hs held new = held
-
-module _ (good kept : Handle → Bool) (f : Handle → Handle) (each : (h : Handle) → good h ≡ true → kept (f h) ≡ true) where
-  pub all_mapped : (hs : List Handle) → list_all good hs ≡ true → list_all kept (map f hs) ≡ true
-  all_mapped [] g = refl
-  all_mapped (x ∷ hs) g = let q = and_parts (good x) (list_all good hs) g in and_from (kept (f x)) (list_all kept (map f hs)) (each x q.0) (all_mapped hs q.1)
-
-module _ (good kept : Handle → Bool) (each : (h : Handle) → good h ≡ true → kept h ≡ true) where
-  pub all_still : (hs : List Handle) → list_all good hs ≡ true → list_all kept hs ≡ true
-  all_still [] g = refl
-  all_still (x ∷ hs) g = let q = and_parts (good x) (list_all good hs) g in and_from (kept x) (list_all kept hs) (each x q.0) (all_still hs q.1)
 
 -- ---- the answer that a channel was opened
 

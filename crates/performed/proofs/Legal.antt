@@ -15,7 +15,8 @@ use Rattle.rules.specs.After.{kept_after, kept_of}
 use Rattle.rules.specs.Due.{due}
 use Rattle.rules.specs.State.{world_of, boards_after, boards_of, State, state_after, state_of}
 use Rattle.rules.specs.Agreement.{are_responses_right}
-use Rattle.rules.specs.Laws.{ShowsCard, KeptLooksBack}
+use Rattle.rules.specs.Laws.{KeptAgrees, PlansForCard, ShowsCard, KeptLooksBack}
+use Rattle.book_plans.specs.Law.{PlansMakeEdits}
 use Rattle.rules.specs.Legal.{Tests, all_pass, mark_tests, other_tests, line_tests, end_tests, changed_in, is_legal_line, are_legal_lines, is_legal_end}
 use Rattle.rules.specs.Performed.{ends_turn, does_due, performed_of}
 use Rattle.rules.specs.Rules.{has_right_response, has_right_edit, are_channels_right, is_rest_right, has_right_verify, has_right_place}
@@ -26,7 +27,8 @@ use Rattle.performed.specs.Placed.{is_turn_allowed, is_placed, are_placed}
 use Rattle.performed.specs.Laws.{LinesAreLegal, LinesArePerformed, MarksMove, RunIsLegal}
 use Rattle.performed.proofs.CalmCards.{channels_right}
 use Rattle.performed.proofs.CalmGiven.{given_of}
-use Rattle.performed.proofs.CalmRest.{responses_right, rest_right}
+use Rattle.performed.proofs.CalmAnswers.{responses_right}
+use Rattle.performed.proofs.CalmRest.{rest_right}
 use Rattle.performed.proofs.CalmLent.{state_world, state_kept, state_texts}
 use Rattle.performed.proofs.CalmEdits.{edits_right}
 use Rattle.performed.proofs.CalmVerify.{verify_right}
@@ -89,7 +91,7 @@ module _ (moves : MarksMove) (shows : ShowsCard) (looks : KeptLooksBack) (s : Sc
     end_known allowed finished =
         let done = ends_done s (kept_of s lines) e (world_of s lines) in
         pass (end_tests s m (changed_in s lines) (known s lines)) refl refl refl (others.channels lines f t e) rest_known done.0 refl
-        (turn_right moves s m lines v f e allowed) finished done.2
+        (turn_right moves s m lines rules v f t e allowed) finished done.2
 
     mark_known : (a : ℕ) → has_right_place s m (known s lines) (line.Turn a) ≡ true → all_pass (mark_tests s m (changed_in s lines) (known s lines) (line.Turn a)) ≡ true
     mark_known a place =
@@ -138,19 +140,19 @@ module _ (moves : MarksMove) (shows : ShowsCard) (looks : KeptLooksBack) (s : Sc
 
 -- ---- the laws
 
-others : ShowsCard → (s : Script) → keeps_rules s ≡ true → serves s ≡ true → Others s
-others shows s rules v = record {
-  edits = λ earlier l f t. edits_right s earlier l rules v f t;
+others : KeptAgrees → KeptLooksBack → PlansForCard → PlansMakeEdits → ShowsCard → (s : Script) → keeps_rules s ≡ true → serves s ≡ true → Others s
+others agrees looks plans makes shows s rules v = record {
+  edits = λ earlier l f t. edits_right agrees plans makes s earlier l rules v f t;
   verifications = λ earlier l f t. verify_right s earlier l rules v f t;
   channels = λ lines f t e. channels_right s (given_of s rules v) lines f t e;
-  rest = λ lines f t e. rest_right shows s lines rules v f t e;
+  rest = λ lines f t e. rest_right agrees looks plans makes shows s lines rules v f t e;
 }
 
-pub lines_are_legal : MarksMove → ShowsCard → KeptLooksBack → LinesAreLegal
-lines_are_legal moves shows looks s m lines rules v f t p = lines_legal moves shows looks s m rules v (others shows s rules v) lines f t p
+pub lines_are_legal : MarksMove → KeptAgrees → PlansForCard → PlansMakeEdits → ShowsCard → KeptLooksBack → LinesAreLegal
+lines_are_legal moves agrees plans makes shows looks s m lines rules v f t p = lines_legal moves shows looks s m rules v (others agrees looks plans makes shows s rules v) lines f t p
 
-pub run_is_legal : MarksMove → ShowsCard → KeptLooksBack → RunIsLegal
-run_is_legal moves shows looks r rules v f t p allowed e finished =
+pub run_is_legal : MarksMove → KeptAgrees → PlansForCard → PlansMakeEdits → ShowsCard → KeptLooksBack → RunIsLegal
+run_is_legal moves agrees plans makes shows looks r rules v f t p allowed e finished =
     and_from (are_legal_lines r.script r.mode r.lines) (is_legal_end r.script r.mode r.lines)
-    (lines_are_legal moves shows looks r.script r.mode r.lines rules v f t p)
-    (end_legal moves shows looks r.script r.mode rules v (others shows r.script rules v) r.lines f t allowed e finished)
+    (lines_are_legal moves agrees plans makes shows looks r.script r.mode r.lines rules v f t p)
+    (end_legal moves shows looks r.script r.mode rules v (others agrees looks plans makes shows r.script rules v) r.lines f t allowed e finished)

@@ -38,7 +38,7 @@ use Rattle.performed.specs.Followed.{is_given_or_refused, is_followed, are_follo
 use Rattle.performed.specs.Told.{is_told, are_told}
 use Rattle.performed.specs.Placed.{is_turn_allowed, is_placed}
 use Rattle.performed.specs.Laws.{MarksMove}
-use Rattle.performed.proofs.CalmRest.{responses_right}
+use Rattle.performed.proofs.CalmAnswers.{responses_right}
 use Rattle.performed.proofs.TurnsSays.{Begins, BeginsNow, says_of, begins_now}
 use Rattle.performed.proofs.EpochLives.{published_lives}
 use Rattle.performed.proofs.LegalDue.{does_line}
@@ -58,15 +58,17 @@ exchanged_bare op job held facts refused t None e = rw e refl
 exchanged_bare op job held facts refused t (Some f) e = rw e refl
 
 -- a turn without lines waits, or finds nothing left
-bare_idle : MarksMove → (s : Script) (lines : List Line) → serves s ≡ true → are_followed s lines ≡ true → ends_turn (due s (kept_of s lines)) ≡ true → (kept_of s lines).turn.bare ≡ true → (kept_of s lines).turn.idle ≡ true
-bare_idle moves s [] v f e b = absurd (true≢false (sym b))
-bare_idle moves s (line.Turn a ∷ earlier) v f e b = idle_or (is_idle s (kept_of s earlier) a) (ends_turn (due s (kept_of s (line.Turn a ∷ earlier)))) (moves s earlier a v f) e
-bare_idle moves s (line.Exchange a c r ∷ earlier) v f e b =
+bare_idle : MarksMove → (s : Script) (lines : List Line) → keeps_rules s ≡ true → serves s ≡ true → are_followed s lines ≡ true → are_told s lines ≡ true → ends_turn (due s (kept_of s lines)) ≡ true → (kept_of s lines).turn.bare ≡ true → (kept_of s lines).turn.idle ≡ true
+bare_idle moves s [] rules v f t e b = absurd (true≢false (sym b))
+bare_idle moves s (line.Turn a ∷ earlier) rules v f t e b =
+    idle_or (is_idle s (kept_of s earlier) a) (ends_turn (due s (kept_of s (line.Turn a ∷ earlier))))
+    (moves s earlier a rules v f (and_parts (are_told s earlier) (is_told s (world_of s earlier) (kept_of s earlier) (line.Turn a)) t).0) e
+bare_idle moves s (line.Exchange a c r ∷ earlier) rules v f t e b =
     let k : Kept = kept_of s earlier in
     let facts : Facts = facts_of s (line.Exchange a c r) k in
     absurd (true≢false (sym b ∙ exchanged_bare (operation_now s a k.jobs) (job_of a (kept_of s (line.Exchange a c r ∷ earlier)).jobs) (held_numbers k.history k.handles) facts
     (refused_of k.selected (jobs_beside (line.Exchange a c r) k.history.epoch facts k.selected k.jobs) facts.answered) k.turn facts.answered refl))
-bare_idle moves s (l ∷ earlier) v f e b = absurd (true≢false (sym b))
+bare_idle moves s (l ∷ earlier) rules v f t e b = absurd (true≢false (sym b))
 
 bare_right : (m : Mode) (t : Turn) → is_turn_allowed m t ≡ true → t.bare ≡ true → t.idle ≡ true → is_bare_turn_right m t ≡ true
 bare_right Replay t h b i = i
@@ -80,12 +82,12 @@ by_actor : (a x : Bool) → x ≡ true → elim a [ true ↦ true | false ↦ x 
 by_actor true x h = refl
 by_actor false x h = h
 
-pub turn_right : MarksMove → (s : Script) (m : Mode) (lines : List Line) → serves s ≡ true → are_followed s lines ≡ true → ends_turn (due s (kept_of s lines)) ≡ true → is_turn_allowed m (kept_of s lines).turn ≡ true → is_turn_right m (world_of s lines) (kept_of s lines) ≡ true
-turn_right moves s m lines v f e allowed =
+pub turn_right : MarksMove → (s : Script) (m : Mode) (lines : List Line) → keeps_rules s ≡ true → serves s ≡ true → are_followed s lines ≡ true → are_told s lines ≡ true → ends_turn (due s (kept_of s lines)) ≡ true → is_turn_allowed m (kept_of s lines).turn ≡ true → is_turn_right m (world_of s lines) (kept_of s lines) ≡ true
+turn_right moves s m lines rules v f t e allowed =
     let k : Kept = kept_of s lines in
     let w : World = world_of s lines in
     by_actor (is_none k.turn.actor) (elim k.turn.bare [ true ↦ is_bare_turn_right m k.turn | false ↦ is_turn_done w k ])
-    (by_bare k.turn.bare (is_bare_turn_right m k.turn) (is_turn_done w k) (λ b. bare_right m k.turn allowed b (bare_idle moves s lines v f e b)) (ends_done s k e w).1)
+    (by_bare k.turn.bare (is_bare_turn_right m k.turn) (is_turn_done w k) (λ b. bare_right m k.turn allowed b (bare_idle moves s lines rules v f t e b)) (ends_done s k e w).1)
 
 -- ---- snapshots
 
@@ -150,7 +152,7 @@ module _ (moves : MarksMove) (shows : ShowsCard) (looks : KeptLooksBack) (s : Sc
       let p1 = and_parts (is_actor_right s m a k) (is_turn_allowed m k.turn) p in
       and_from (not (is_finished s k) && is_actor_right s m a k) (is_turn_right m (world_of s earlier) k)
       (and_from (not (is_finished s k)) (is_actor_right s m a k) q2.1 p1.0)
-      (turn_right moves s m earlier v followed q2.0 p1.1)
+      (turn_right moves s m earlier rules v followed told q2.0 p1.1)
 
   look_by : (a : ℕ) (seen : SeenValue) (d : Due) → due s (kept_of s earlier) ≡ d → is_given_or_refused (answer.Look seen) d ≡ true → has_right_place s m (known s earlier) (line.Answered a 0 (answer.Look seen)) ≡ true
   look_by a seen (give x) e h = look_placed looks s earlier m a seen x (says_of s (kept_of s earlier) (give x) e) h

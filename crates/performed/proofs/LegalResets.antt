@@ -42,6 +42,10 @@ use Rattle.rules.specs.Performed.{begins_as, is_sent}
 use Rattle.rules.specs.Rules.{is_turn_of}
 use Rattle.performed.specs.Served.{is_served, serves}
 use Rattle.performed.specs.Followed.{is_followed, are_followed}
+use Rattle.adn.specs.declared.edit.Edit.{Edit}
+use Rattle.rules.specs.Editing.{family_edit}
+use Rattle.rules.specs.Work.{work_of_edit}
+use Rattle.performed.proofs.EditsDecides.{work_passes}
 use Rattle.performed.proofs.LegalScript.{IsPlain, plain_at, plain_now}
 use Rattle.performed.proofs.MeasureShape.{IsFirstOf, Shape, exchange_next, shape}
 use Rattle.performed.proofs.JobPlaces.{job_count, begun_place}
@@ -99,6 +103,9 @@ close_calm None = refl
 close_calm (Some h) = refl
 
 module _ (k : Kept) where
+  edit_calm : (actor : ℕ) (b : Begun) (o : Option (ℕ × Edit)) → is_calm_work (work_of_edit k actor b o).work ≡ true
+  edit_calm actor b o = work_passes (λ (w : Work). is_calm_work w ≡ true) (record { writing = refl; reading = λ path. refl; resting = refl; lacking = λ key. refl; refusing = λ refusal. refl }) k actor b o
+
   work_calm : (actor : ℕ) (b : Begun) (op : Operation) → is_served op ≡ true → is_calm_work (work_of_operation k actor b op).work ≡ true
   work_calm actor b (operation.Insert card) served = refl
   work_calm actor b operation.Out served = refl
@@ -111,7 +118,10 @@ module _ (k : Kept) where
   work_calm actor b operation.Poll served = if_calm (lives_in k.history b.epoch) (sends status_command) refl
   work_calm actor b (operation.End key) served = refl
   work_calm actor b operation.Look served = refl
-  work_calm actor b op served = absurd (true≢false (sym served))
+  work_calm actor b (operation.Set f at name number) served = edit_calm actor b (family_edit (operation.Set f at name number))
+  work_calm actor b (operation.Clear f at) served = edit_calm actor b (family_edit (operation.Clear f at))
+  work_calm actor b (operation.Watch mask) served = refl
+  work_calm actor b operation.Notices served = refl
 
   begun_calm : (actor : ℕ) (b : Option Begun) (o : Option Operation) → IsPlain o → is_calm_work (decision_of_begun k actor b o).work ≡ true
   begun_calm actor None o p = refl

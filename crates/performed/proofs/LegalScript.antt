@@ -1,5 +1,5 @@
 -- What the operations of a served script are; and so what a turn may publish, and that the framework alone resets the card.
-use Rattle.std.proofs.Common.{◌≡◌, ℕ, zero, suc, ◌==◌, ◌&&◌, ◌||◌, Bool, true, false, if◌then◌else◌, Option, Some, None, List, [], ◌∷◌, length, map, refl, sym, subst, true≢false, arith}
+use Rattle.std.proofs.Common.{◌≡◌, ℕ, zero, suc, ◌==◌, ◌&&◌, ◌||◌, Bool, true, false, if◌then◌else◌, Option, Some, None, List, [], ◌∷◌, length, map, refl, subst, arith}
 use Rattle.std.specs.Prelude.{nat_le, slice_get, unwrap_or, option_map, find, is_some, not}
 use Rattle.std.specs.List.{list_all}
 use Rattle.std.proofs.lemmas.Bool.{and_parts, and_from, leb-true}
@@ -26,7 +26,7 @@ use Rattle.rules.specs.History.{lives_in}
 use Rattle.rules.specs.Kept.{operation_at, begun_of, begun_operation, operation_now, job_of}
 use Rattle.rules.specs.Channels.{held_numbers}
 use Rattle.rules.specs.Standing.{standing_after, is_stale, first_stale}
-use Rattle.rules.specs.Work.{is_starting, family_of_operation, family_read}
+use Rattle.rules.specs.Work.{is_starting, is_edit_over, family_of_operation, family_read}
 use Rattle.rules.specs.After.{facts_of, refused_of, family_begun, jobs_beside, fresh_begun, decision_at, family_of_begun, family_at, turn_exchanged, turn_behind, kept_of}
 use Rattle.performed.specs.Served.{is_served, serves}
 
@@ -124,7 +124,10 @@ family_of_op b (operation.Verify key pin) served form = refl
 family_of_op b operation.Poll served form = refl
 family_of_op b (operation.End key) served form = refl
 family_of_op b operation.Look served form = refl
-family_of_op b op served form = absurd (true≢false (sym served))
+family_of_op b (operation.Set f at name number) served form = if_some (is_edit_over b.editing) (Some f) (below_three f form)
+family_of_op b (operation.Clear f at) served form = if_some (is_edit_over b.editing) (Some f) (below_three f form)
+family_of_op b (operation.Watch mask) served form = refl
+family_of_op b operation.Notices served form = refl
 
 module _ (k : Kept) where
   begun_family : (b : Option Begun) (o : Option Operation) → IsPlain o → is_family_or_none (family_of_begun k b o) ≡ true

@@ -1,31 +1,26 @@
--- An actor of a script that is served edits nothing and has no mailbox; it answers at most its operations, and has one left while one has
--- begun. The channels that are held are logical channels beside the basic one.
+-- An actor answers at most its operations, has one left while one has begun, and dropped no more notices than there were publications. The
+-- channels that are held are logical channels beside the basic one.
 use Rattle.std.proofs.Common.{◌≡◌, ℕ, zero, suc, ◌+◌, ◌≤◌, ◌<◌, ◌==◌, ◌&&◌, Bool, true, false, if◌then◌else◌, List, [], ◌∷◌, length, not, Option, Some, None, is_some, refl, sym, ap, ◌∙◌, subst, arith, true≢false}
-use Rattle.std.specs.Prelude.{nat_lt, nat_le, option_map, slice_get, unwrap_or}
+use Rattle.std.specs.Prelude.{nat_lt, nat_le, ◌++◌, drop, option_map, slice_get, unwrap_or}
 use Rattle.std.specs.List.{list_all}
-use Rattle.std.proofs.lemmas.Bool.{and_parts, eqb-true, ltb-true, leb-true}
+use Rattle.std.proofs.lemmas.Bool.{and_parts, eqb-true, ltb-true}
 use Rattle.apdu.specs.Words.{is_between, is_one_of, or_else}
-use Rattle.apdu.specs.Values.{CommandValue}
-use Rattle.apdu.specs.Apdu.{is_update_ins, is_success, wants_more, select_ins}
+use Rattle.apdu.specs.Apdu.{is_success, wants_more, select_ins}
 use Rattle.script_reader.specs.declared.types.Script.{Script}
 use Rattle.script_reader.specs.declared.types.Operation.{Operation}
 use Rattle.script_reader.specs.declared.types.Operation.TheVariants as operation
-use Rattle.script_reader.specs.Rules.{keeps_rules, cards_keep_rules, changes_keep_rules, actors_keep_rules, schedule_keeps_rules, faults_keep_rules, budget_keeps_rules}
-use Rattle.script_reader.specs.Operations.{operation_count, is_actor}
 use Rattle.report.specs.declared.answer.Answer.{Answer}
 use Rattle.report.specs.declared.answer.Answer.TheVariants as answer
 use Rattle.report.specs.declared.line.Line.{Line}
 use Rattle.report.specs.declared.line.Line.TheVariants as line
-use Rattle.link.specs.declared.chain.Chain.{Chain}
 use Rattle.link.specs.declared.chain.Final.{Final}
 use Rattle.link.specs.Commands.{is_refused}
 use Rattle.channels.specs.Channels.{is_opening, new_number, opened_number}
 use Rattle.loader.specs.Reading.{has_bad_fcp}
 use Rattle.loader.specs.declared.reading.RefusedReading.{RefusedReading}
+use Rattle.epoch_cache.specs.Past.{counted}
 use Rattle.watchers.specs.declared.mailbox.Mailbox.{Mailbox}
-use Rattle.editor.specs.declared.editing.Editing.{Editing}
-use Rattle.editor.specs.Editing.{no_editing, moved_editing, sent_update, with_attempt}
-use Rattle.editor.specs.declared.editing.Attempt.{Attempt}
+use Rattle.watchers.specs.Watching.{mailbox_len, offered_to, wants, with_notice}
 use Rattle.rules.specs.declared.holdings.Handle.{Handle}
 use Rattle.rules.specs.declared.kept.Begun.{Begun}
 use Rattle.rules.specs.declared.kept.Facts.{Facts}
@@ -41,13 +36,14 @@ use Rattle.rules.specs.Kept.{actor_count, first_job, job_of, begun_of, begun_ope
 use Rattle.rules.specs.Work.{has_operations_left}
 use Rattle.rules.specs.Due.{due}
 use Rattle.rules.specs.Rules.{is_turn_of, is_begun_at}
-use Rattle.rules.specs.After.{begun_beside, begun_with, begun_exchanged, begun_failed, mailbox_behind, job_beside, jobs_beside, edit_of, editing_sent, own_job, handles_given, decision_of_begun, decision_at, fresh_begun, facts_of, refused_of, opened_behind, no_channel_left, refused_outcome, success_or_refusal, opening_outcome, selecting_outcome, outcome_of, turn_answered, turn_exchanged, kept_after, kept_of}
+use Rattle.rules.specs.After.{is_publication, begun_beside, begun_with, begun_exchanged, begun_failed, mailbox_behind, job_beside, jobs_beside, edit_of, own_job, handles_given, decision_at, facts_of, refused_of, opened_behind, no_channel_left, refused_outcome, success_or_refusal, opening_outcome, selecting_outcome, outcome_of, turn_answered, turn_exchanged, kept_after, kept_of}
 use Rattle.performed.proofs.TurnsJobs.{Before, before, behind_job, first_jobs, is_own}
 use Rattle.performed.proofs.TurnsSays.{BeginsNow, begins_now}
-use Rattle.performed.proofs.Handles.{given_good, all_mapped, Opens, opens}
+use Rattle.performed.proofs.Handles.{given_good, Opens, opens}
+use Rattle.performed.proofs.Lists.{all_mapped}
 use Rattle.performed.specs.Served.{is_served, serves}
 use Rattle.performed.specs.Followed.{are_followed, is_followed, is_given_or_refused}
-use Rattle.performed.specs.Laws.{has_no_edit, IsPlainJob, ArePlainJobs, is_channel, IsPlain}
+use Rattle.performed.specs.Laws.{is_channel, DropsAtMost}
 
 -- ---- the operations of a script that is served
 
@@ -73,111 +69,71 @@ pub served_now : (s : Script) (a : ℕ) (o : Option Begun) → serves s ≡ true
 served_now s a None h = tt
 served_now s a (Some b) h = served_at s a b.index h
 
--- what it does to what is kept: nothing
-no_edit_of : (op : Option Operation) → ServesAt op → edit_of op ≡ None
-no_edit_of None h = refl
-no_edit_of (Some (operation.Insert card)) h = refl
-no_edit_of (Some operation.Out) h = refl
-no_edit_of (Some (operation.Arm change)) h = refl
-no_edit_of (Some (operation.Load f)) h = refl
-no_edit_of (Some (operation.OpenChannel handle aid)) h = refl
-no_edit_of (Some (operation.Raw handle apdu)) h = refl
-no_edit_of (Some (operation.Close handle)) h = refl
-no_edit_of (Some (operation.Verify key pin)) h = refl
-no_edit_of (Some operation.Poll) h = refl
-no_edit_of (Some (operation.End key)) h = refl
-no_edit_of (Some operation.Look) h = refl
-no_edit_of (Some op) h = absurd (true≢false (sym h))
+-- ---- a mailbox
 
-no_attempt : (k : Kept) (a : ℕ) (o : Option Begun) (op : Option Operation) → ServesAt op → (decision_of_begun k a o op).attempt ≡ None
-no_attempt k a None op h = refl
-no_attempt k a (Some b) None h = refl
-no_attempt k a (Some b) (Some (operation.Insert card)) h = refl
-no_attempt k a (Some b) (Some operation.Out) h = refl
-no_attempt k a (Some b) (Some (operation.Arm change)) h = refl
-no_attempt k a (Some b) (Some (operation.Load f)) h = refl
-no_attempt k a (Some b) (Some (operation.OpenChannel handle aid)) h = refl
-no_attempt k a (Some b) (Some (operation.Raw handle apdu)) h = refl
-no_attempt k a (Some b) (Some (operation.Close handle)) h = refl
-no_attempt k a (Some b) (Some (operation.Verify key pin)) h = refl
-no_attempt k a (Some b) (Some operation.Poll) h = refl
-no_attempt k a (Some b) (Some (operation.End key)) h = refl
-no_attempt k a (Some b) (Some operation.Look) h = refl
-no_attempt k a (Some b) (Some op) h = absurd (true≢false (sym h))
+with_notice_drops : (n number : ℕ) (m : Mailbox) → m.dropped ≤ n → (with_notice number m).dropped ≤ n + 1
+with_notice_drops n number m h = by_room (nat_lt (length m.numbers.items) mailbox_len)
+  where
+    by_room : (b : Bool) → (if b then record m { numbers = record { items = m.numbers.items ++ number ∷ [] } } else record m { dropped = m.dropped + 1; numbers = record { items = drop 1 m.numbers.items ++ number ∷ [] } }).dropped ≤ n + 1
+    by_room true = omega (arith, h)
+    by_room false = omega (arith, h)
 
-no_mailbox : (op : Option Operation) (given : Answer) → ServesAt op → elim op as (λ o. Option Mailbox) [ None ↦ None | Some o ↦ mailbox_after o given None ] ≡ None
-no_mailbox None given h = refl
-no_mailbox (Some (operation.Insert card)) given h = refl
-no_mailbox (Some operation.Out) given h = refl
-no_mailbox (Some (operation.Arm change)) given h = refl
-no_mailbox (Some (operation.Load f)) given h = refl
-no_mailbox (Some (operation.OpenChannel handle aid)) given h = refl
-no_mailbox (Some (operation.Raw handle apdu)) given h = refl
-no_mailbox (Some (operation.Close handle)) given h = refl
-no_mailbox (Some (operation.Verify key pin)) given h = refl
-no_mailbox (Some operation.Poll) given h = refl
-no_mailbox (Some (operation.End key)) given h = refl
-no_mailbox (Some operation.Look) given h = refl
-no_mailbox (Some op) given h = absurd (true≢false (sym h))
+offered_drops : (kind : Option ℕ) (number n : ℕ) (o : Option Mailbox) → DropsAtMost n o → DropsAtMost (n + 1) (offered_to kind number o)
+offered_drops kind number n None h = tt
+offered_drops kind number n (Some m) h = by_want (wants m.mask kind)
+  where
+    by_want : (b : Bool) → (if b then with_notice number m else m).dropped ≤ n + 1
+    by_want true = with_notice_drops n number m h
+    by_want false = omega (arith, h)
+
+-- behind a line
+drops_behind : (l : Line) (n : ℕ) (o : Option Mailbox) → DropsAtMost n o → DropsAtMost (counted (is_publication l) n) (mailbox_behind l o)
+drops_behind (line.Published k f e v text) n o h = offered_drops (Some f) k n o h
+drops_behind (line.EpochEnd k e v) n o h = offered_drops None k n o h
+drops_behind (line.Turn a) n o h = h
+drops_behind (line.Begin a op) n o h = h
+drops_behind (line.Exchange a c r) n o h = h
+drops_behind (line.Failed a c d) n o h = h
+drops_behind (line.Reset a) n o h = h
+drops_behind (line.ResetFailed a) n o h = h
+drops_behind (line.World a e) n o h = h
+drops_behind (line.Refused f v) n o h = h
+drops_behind (line.Answered a op given) n o h = h
+
+-- behind the answer to an operation
+drops_after : (op : Operation) (given : Answer) (n : ℕ) (o : Option Mailbox) → DropsAtMost n o → DropsAtMost n (mailbox_after op given o)
+drops_after (operation.Watch mask) answer.Watching n o h = omega arith
+drops_after op given n o h = h
+
+drops_answered : (op : Option Operation) (given : Answer) (n : ℕ) (o : Option Mailbox) → DropsAtMost n o → DropsAtMost n (elim op as (λ x. Option Mailbox) [ None ↦ o | Some x ↦ mailbox_after x given o ])
+drops_answered None given n o h = h
+drops_answered (Some op) given n o h = drops_after op given n o h
 
 -- ---- a job
 
--- it has answered at most its operations, and has one left while one has begun
-pub record KeepsJob (s : Script) (i : ℕ) (x : Job) : Type 0 where
+-- it has answered at most its operations, has one left while one has begun, and dropped at most so many notices
+pub record KeepsJob (s : Script) (n i : ℕ) (x : Job) : Type 0 where
   pub answered : x.answered ≤ length (operations_of s i)
   pub left : is_some x.begun ≡ true → x.answered < length (operations_of s i)
-  pub editing : has_no_edit x.begun
-  pub mailbox : x.mailbox ≡ None
+  pub mailbox : DropsAtMost n x.mailbox
 
 some_map : (f : Begun → Begun) (o : Option Begun) → is_some (option_map f o) ≡ is_some o
 some_map f None = refl
 some_map f (Some b) = refl
 
-no_edit_map : (f : Begun → Begun) → ((b : Begun) → b.editing ≡ no_editing → (f b).editing ≡ no_editing) → (o : Option Begun) → has_no_edit o → has_no_edit (option_map f o)
-no_edit_map f h None e = tt
-no_edit_map f h (Some b) e = h b e
-
-no_mailbox_behind : (l : Line) (m : Option Mailbox) → m ≡ None → mailbox_behind l m ≡ None
-no_mailbox_behind l m h = ap (mailbox_behind l) h ∙ by_line l
-  where
-    by_line : (l : Line) → mailbox_behind l None ≡ None
-    by_line (line.Published k f e n text) = refl
-    by_line (line.EpochEnd k e n) = refl
-    by_line (line.Turn a) = refl
-    by_line (line.Begin a op) = refl
-    by_line (line.Exchange a c r) = refl
-    by_line (line.Failed a c d) = refl
-    by_line (line.Reset a) = refl
-    by_line (line.ResetFailed a) = refl
-    by_line (line.World a e) = refl
-    by_line (line.Refused f n) = refl
-    by_line (line.Answered a op given) = refl
-
 module _ (s : Script) (i : ℕ) where
-  -- what changes its operation and neither its answers nor its mailbox
-  changed : (f : Begun → Begun) → ((b : Begun) → b.editing ≡ no_editing → (f b).editing ≡ no_editing) → (x y : Job) → y.answered ≡ x.answered → y.begun ≡ option_map f x.begun → y.mailbox ≡ None → KeepsJob s i x → KeepsJob s i y
-  changed f h x y same begun mailbox k = record {
+  -- what changes its operation and its mailbox, and not its answers
+  changed : (f : Begun → Begun) → (n m : ℕ) (x y : Job) → y.answered ≡ x.answered → y.begun ≡ option_map f x.begun → DropsAtMost m y.mailbox → KeepsJob s n i x → KeepsJob s m i y
+  changed f n m x y same begun mailbox k = record {
     answered = subst (λ (n : ℕ). n ≤ length (operations_of s i)) (sym same) k.answered;
     left = λ e. subst (λ (n : ℕ). n < length (operations_of s i)) (sym same) (k.left (sym (some_map f x.begun) ∙ sym (ap is_some begun) ∙ e));
-    editing = subst (λ (o : Option Begun). has_no_edit o) (sym begun) (no_edit_map f h x.begun k.editing);
     mailbox = mailbox;
   }
 
-  beside : (l : Line) (epoch : ℕ) (facts : Facts) (selected : Option (List ℕ)) (x : Job) → KeepsJob s i x → KeepsJob s i (job_beside l epoch facts selected x)
-  beside l epoch facts selected x k = changed (begun_beside l epoch facts) (λ b e. ap (moved_editing facts.touch) e) x (job_beside l epoch facts selected x) refl refl (no_mailbox_behind l x.mailbox k.mailbox) k
+  beside : (l : Line) (epoch : ℕ) (facts : Facts) (selected : Option (List ℕ)) (n : ℕ) (x : Job) → KeepsJob s n i x → KeepsJob s (counted (is_publication l) n) i (job_beside l epoch facts selected x)
+  beside l epoch facts selected n x k = changed (begun_beside l epoch facts) n (counted (is_publication l) n) x (job_beside l epoch facts selected x) refl refl (drops_behind l n x.mailbox k.mailbox) k
 
 -- ---- what its own line does
-
-sent_none : (c : CommandValue) (chain : Option Chain) → editing_sent c chain no_editing ≡ no_editing
-sent_none c None = by_ins (is_update_ins c.ins)
-  where
-    by_ins : (b : Bool) → (if b then sent_update no_editing else no_editing) ≡ no_editing
-    by_ins true = refl
-    by_ins false = refl
-sent_none c (Some chain) = refl
-
-marked_none : (o : Option Attempt) (e : Editing) → o ≡ None → with_attempt o e ≡ e
-marked_none o e h = ap (λ (p : Option Attempt). with_attempt p e) h
 
 not_false : (b : Bool) → not b ≡ false → b ≡ true
 not_false true h = refl
@@ -187,10 +143,17 @@ pub begun_some : (op : ℕ) (o : Option Begun) → is_begun_at op o ≡ true →
 begun_some op None h = h
 begun_some op (Some b) h = refl
 
-module _ (s : Script) (k : Kept) (serving : serves s ≡ true) (i : ℕ) where
-  either : (b : Bool) (y z : Job) → (b ≡ true → KeepsJob s i y) → KeepsJob s i z → KeepsJob s i (if b then y else z)
-  either true y z h g = h refl
-  either false y z h g = g
+module _ (s : Script) (k : Kept) (i : ℕ) where
+  either : (b : Bool) (n : ℕ) (y z : Job) → (b ≡ true → KeepsJob s n i y) → KeepsJob s n i z → KeepsJob s n i (if b then y else z)
+  either true n y z h g = h refl
+  either false n y z h g = g
+
+  -- how many publications there were before, and behind a line
+  abbrev so_far : ℕ
+  so_far = k.publications
+
+  abbrev behind : Line → ℕ
+  behind l = counted (is_publication l) k.publications
 
   -- behind what the line does to every job
   abbrev near : Line → Job → Job
@@ -199,8 +162,8 @@ module _ (s : Script) (k : Kept) (serving : serves s ≡ true) (i : ℕ) where
   abbrev own : Line → Job → Job
   own l x = own_job s l k (facts_of s l k) (decision_at s l k).attempt (near l x)
 
-  near_kept : (l : Line) (x : Job) → KeepsJob s i x → KeepsJob s i (near l x)
-  near_kept l x h = beside s i l k.history.epoch (facts_of s l k) k.selected x h
+  near_kept : (l : Line) (x : Job) → KeepsJob s so_far i x → KeepsJob s (behind l) i (near l x)
+  near_kept l x h = beside s i l k.history.epoch (facts_of s l k) k.selected so_far x h
 
   job_here : (x : Job) → slice_get k.jobs i ≡ Some x → job_of i k.jobs ≡ x
   job_here x here = ap (λ (o : Option Job). unwrap_or o first_job) here
@@ -222,35 +185,30 @@ module _ (s : Script) (k : Kept) (serving : serves s ≡ true) (i : ℕ) where
       let t : is_begun_at op (begun_of i k.jobs) ≡ true = subst (λ (n : ℕ). is_begun_at op (begun_of n k.jobs) ≡ true) (eqb-true a i same) q.0 in
       begun_some op x.begun (subst (λ (y : Job). is_begun_at op y.begun ≡ true) (job_here x here) t)
 
-  own_kept : (l : Line) (x : Job) → is_followed s k l ≡ true → slice_get k.jobs i ≡ Some x → is_own i l ≡ true → KeepsJob s i x → KeepsJob s i (own l x)
+  own_kept : (l : Line) (x : Job) → is_followed s k l ≡ true → slice_get k.jobs i ≡ Some x → is_own i l ≡ true → KeepsJob s so_far i x → KeepsJob s (behind l) i (own l x)
   own_kept (line.Turn zero) x f here same h =
       let n = near_kept (line.Turn zero) x h in
-      record { answered = n.answered; left = n.left; editing = n.editing; mailbox = n.mailbox }
+      record { answered = n.answered; left = n.left; mailbox = n.mailbox }
   own_kept (line.Turn (suc a)) x f here same h =
       let l : Line = line.Turn (suc a) in
       let n = near_kept l x h in
-      let none : (decision_at s l k).attempt ≡ None = no_attempt k (suc a) (begun_of (suc a) k.jobs) (operation_now s (suc a) k.jobs) (served_now s (suc a) (begun_of (suc a) k.jobs) serving) in
-      changed s i (begun_with (decision_at s l k).attempt) (λ b e. marked_none (decision_at s l k).attempt b.editing none ∙ e) (near l x) (own l x) refl refl n.mailbox n
+      changed s i (begun_with (decision_at s l k).attempt) so_far so_far (near l x) (own l x) refl refl n.mailbox n
   own_kept (line.Begin a op) x f here same h =
       let l : Line = line.Begin a op in
       let n = near_kept l x h in
-      let none : (decision_at s l k).attempt ≡ None = no_attempt k a (Some (fresh_begun op k.history)) (operation_at s a op) (served_at s a op serving) in
       record {
         answered = n.answered;
         left = λ e. begin_left a op x f here same;
-        editing = marked_none (decision_at s l k).attempt no_editing none;
         mailbox = n.mailbox;
       }
   own_kept (line.Exchange a c r) x f here same h =
       let l : Line = line.Exchange a c r in
       let n = near_kept l x h in
-      let none : edit_of (operation_now s a k.jobs) ≡ None = no_edit_of (operation_now s a k.jobs) (served_now s a (begun_of a k.jobs) serving) in
-      changed s i (begun_exchanged (edit_of (operation_now s a k.jobs)) k.selected k.chain (facts_of s l k).event c r) (λ b e. rw (none, e) (sent_none c k.chain)) (near l x) (own l x) refl refl n.mailbox n
+      changed s i (begun_exchanged (edit_of (operation_now s a k.jobs)) k.selected k.chain (facts_of s l k).event c r) so_far so_far (near l x) (own l x) refl refl n.mailbox n
   own_kept (line.Failed a c d) x f here same h =
       let l : Line = line.Failed a c d in
       let n = near_kept l x h in
-      let none : edit_of (operation_now s a k.jobs) ≡ None = no_edit_of (operation_now s a k.jobs) (served_now s a (begun_of a k.jobs) serving) in
-      changed s i (begun_failed (edit_of (operation_now s a k.jobs)) k.selected k.chain (facts_of s l k).event c) (λ b e. rw (none, e) (sent_none c k.chain)) (near l x) (own l x) refl refl n.mailbox n
+      changed s i (begun_failed (edit_of (operation_now s a k.jobs)) k.selected k.chain (facts_of s l k).event c) so_far so_far (near l x) (own l x) refl refl n.mailbox n
   own_kept (line.Answered a op given) x f here same h =
       let l : Line = line.Answered a op given in
       let n = near_kept l x h in
@@ -258,13 +216,12 @@ module _ (s : Script) (k : Kept) (serving : serves s ≡ true) (i : ℕ) where
       record {
         answered = omega arith;
         left = λ e. absurd (true≢false (sym e));
-        editing = tt;
-        mailbox = ap (λ (m : Option Mailbox). elim (operation_at s a op) [ None ↦ m | Some o ↦ mailbox_after o given m ]) n.mailbox ∙ no_mailbox (operation_at s a op) given (served_at s a op serving);
+        mailbox = drops_answered (operation_at s a op) given so_far (near l x).mailbox n.mailbox;
       }
   own_kept l x f here same h = absurd (true≢false (sym same))
 
-  job_kept : (l : Line) (x : Job) → is_followed s k l ≡ true → slice_get k.jobs i ≡ Some x → KeepsJob s i x → KeepsJob s i (behind_job s l k i x)
-  job_kept l x f here h = either (is_own i l) (own l x) (near l x) (λ same. own_kept l x f here same h) (near_kept l x h)
+  job_kept : (l : Line) (x : Job) → is_followed s k l ≡ true → slice_get k.jobs i ≡ Some x → KeepsJob s so_far i x → KeepsJob s (behind l) i (behind_job s l k i x)
+  job_kept l x f here h = either (is_own i l) (behind l) (own l x) (near l x) (λ same. own_kept l x f here same h) (near_kept l x h)
 
 -- ---- the channels that are opened
 
@@ -401,67 +358,27 @@ module _ (s : Script) (k : Kept) (h : KeepsTurn k.turn) where
 -- ---- all lines
 
 pub record Keeps (s : Script) (k : Kept) : Type 0 where
-  pub jobs : (i : ℕ) (x : Job) → slice_get k.jobs i ≡ Some x → KeepsJob s i x
+  pub jobs : (i : ℕ) (x : Job) → slice_get k.jobs i ≡ Some x → KeepsJob s k.publications i x
   pub handles : list_all is_channel k.handles ≡ true
   pub turn : KeepsTurn k.turn
 
-first_keeps : (s : Script) (i : ℕ) → KeepsJob s i first_job
-first_keeps s i = record { answered = omega arith; left = λ e. absurd (true≢false (sym e)); editing = tt; mailbox = refl }
+first_keeps : (s : Script) (i : ℕ) → KeepsJob s 0 i first_job
+first_keeps s i = record { answered = omega arith; left = λ e. absurd (true≢false (sym e)); mailbox = tt }
 
-pub keeps : (s : Script) (lines : List Line) → serves s ≡ true → are_followed s lines ≡ true → Keeps s (kept_of s lines)
-keeps s [] serving followed = record {
-  jobs = λ i x h. subst (λ (y : Job). KeepsJob s i y) (sym (first_jobs (actor_count s + 1) i x h)) (first_keeps s i);
+pub keeps : (s : Script) (lines : List Line) → are_followed s lines ≡ true → Keeps s (kept_of s lines)
+keeps s [] followed = record {
+  jobs = λ i x h. subst (λ (y : Job). KeepsJob s 0 i y) (sym (first_jobs (actor_count s + 1) i x h)) (first_keeps s i);
   handles = refl;
   turn = record { opened = refl; outcome = refl };
 }
-keeps s (l ∷ earlier) serving followed =
+keeps s (l ∷ earlier) followed =
     let k : Kept = kept_of s earlier in
     let p = and_parts (are_followed s earlier) (is_followed s k l) followed in
-    let h : Keeps s k = keeps s earlier serving p.0 in
+    let h : Keeps s k = keeps s earlier p.0 in
     record {
       jobs = λ i y here.
           let b : Before s l k i y = before s l k i y here in
-          subst (λ (z : Job). KeepsJob s i z) (sym b.became) (job_kept s k serving i l b.job p.1 b.here (h.jobs i b.job b.here));
+          subst (λ (z : Job). KeepsJob s (kept_after s l k).publications i z) (sym b.became) (job_kept s k i l b.job p.1 b.here (h.jobs i b.job b.here));
       handles = channels_kept s k h.turn l p.1 h.handles;
       turn = turn_kept s k h.turn l;
-    }
-
--- ---- at most 1000 operations
-
-count_in : (actors : List (List Operation)) (a : ℕ) → length (unwrap_or (slice_get actors a) []) ≤ operation_count actors
-count_in [] a = omega arith
-count_in (ops ∷ actors) zero = omega arith
-count_in (ops ∷ actors) (suc a) = let h = count_in actors a in omega arith
-
-count_of_actor : (s : Script) (i : ℕ) → length (operations_of s i) ≤ operation_count s.actors
-count_of_actor s zero = omega arith
-count_of_actor s (suc a) = count_in s.actors a
-
-most : (s : Script) → keeps_rules s ≡ true → operation_count s.actors ≤ 1000
-most s h =
-    let a1 = and_parts ((s.version == 1) && cards_keep_rules s.cards && changes_keep_rules s.changes && actors_keep_rules (length s.cards) (length s.changes) s.actors && schedule_keeps_rules (length s.actors) s.schedule && faults_keep_rules s.faults) (budget_keeps_rules s.budget) h in
-    let a2 = and_parts ((s.version == 1) && cards_keep_rules s.cards && changes_keep_rules s.changes && actors_keep_rules (length s.cards) (length s.changes) s.actors && schedule_keeps_rules (length s.actors) s.schedule) (faults_keep_rules s.faults) a1.0 in
-    let a3 = and_parts ((s.version == 1) && cards_keep_rules s.cards && changes_keep_rules s.changes && actors_keep_rules (length s.cards) (length s.changes) s.actors) (schedule_keeps_rules (length s.actors) s.schedule) a2.0 in
-    let a4 = and_parts ((s.version == 1) && cards_keep_rules s.cards && changes_keep_rules s.changes) (actors_keep_rules (length s.cards) (length s.changes) s.actors) a3.0 in
-    let a5 = and_parts (is_between 1 8 (length s.actors) && nat_le (operation_count s.actors) 1000) (list_all (is_actor (length s.cards) (length s.changes)) s.actors) a4.1 in
-    let a6 = and_parts (is_between 1 8 (length s.actors)) (nat_le (operation_count s.actors) 1000) a5.0 in
-    leb-true (operation_count s.actors) 1000 a6.1
-
-plain_job : (s : Script) (i : ℕ) (x : Job) → keeps_rules s ≡ true → KeepsJob s i x → IsPlainJob x
-plain_job s i x rules h =
-    let a = h.answered in
-    let b = count_of_actor s i in
-    let c = most s rules in
-    record { answered = omega arith; editing = h.editing; mailbox = h.mailbox }
-
-plain_jobs : (jobs : List Job) → ((i : ℕ) (x : Job) → slice_get jobs i ≡ Some x → IsPlainJob x) → ArePlainJobs jobs
-plain_jobs [] h = tt
-plain_jobs (job ∷ jobs) h = (h 0 job refl, plain_jobs jobs (λ i x e. h (suc i) x e))
-
-pub stays_plain : (s : Script) (lines : List Line) → keeps_rules s ≡ true → serves s ≡ true → are_followed s lines ≡ true → IsPlain (kept_of s lines)
-stays_plain s lines rules serving followed =
-    let h : Keeps s (kept_of s lines) = keeps s lines serving followed in
-    record {
-      jobs = plain_jobs (kept_of s lines).jobs (λ i x here. plain_job s i x rules (h.jobs i x here));
-      handles = h.handles;
     }

@@ -1,7 +1,6 @@
 -- What makes a line due in a turn whose beginning has done nothing yet.
-use Rattle.std.proofs.Common.{◌≡◌, ℕ, ◌&&◌, ◌||◌, not, Bool, true, false, if◌then◌else◌, List, [], ◌∷◌, Option, Some, None, is_some, is_none, refl, sym, ap, ◌∙◌, true≢false}
+use Rattle.std.proofs.Common.{◌≡◌, ℕ, ◌&&◌, ◌||◌, Bool, true, false, if◌then◌else◌, List, Option, Some, None, is_some, is_none, refl, sym, ap, ◌∙◌, true≢false}
 use Rattle.std.specs.Prelude.{option_and_then}
-use Rattle.std.proofs.lemmas.Bool.{and_from}
 use Rattle.apdu.specs.Values.{CommandValue}
 use Rattle.card_model.specs.declared.world.WorldEvent.{WorldEvent}
 use Rattle.card_model.specs.declared.world.WorldEvent.TheVariants as world_event
@@ -10,9 +9,12 @@ use Rattle.script_reader.specs.declared.types.Operation.{Operation}
 use Rattle.script_reader.specs.declared.types.Operation.TheVariants as operation
 use Rattle.report.specs.declared.answer.Answer.{Answer}
 use Rattle.report.specs.declared.answer.Answer.TheVariants as answer
+use Rattle.adn.specs.declared.edit.Edit.{Edit}
+use Rattle.adn.specs.declared.edit.Edit.TheVariants as edit
 use Rattle.families.specs.Families.{family_paths}
+use Rattle.editor.specs.Editing.{with_attempt}
 use Rattle.epoch_cache.specs.declared.cached.CachedFile.{CachedFile}
-use Rattle.epoch_cache.specs.Cache.{is_current, all_current, first_missing}
+use Rattle.epoch_cache.specs.Cache.{all_current, first_missing}
 use Rattle.link.specs.declared.chain.Chain.{Chain}
 use Rattle.channels.specs.Channels.{on_channel, open_command, close_command}
 use Rattle.rules.specs.declared.holdings.Handle.{Handle}
@@ -26,13 +28,15 @@ use Rattle.rules.specs.History.{lives_in, is_living}
 use Rattle.rules.specs.Kept.{job_of, begun_of, operation_now}
 use Rattle.rules.specs.Channels.{is_handle_of, handle_of, is_living_handle, is_raw_ins}
 use Rattle.rules.specs.Sessions.{has_session, verify_command}
+use Rattle.rules.specs.Editing.{family_edit}
 use Rattle.rules.specs.Work.{reads_first, status_command, living_handle, sends_raw, sends_close, work_of_operation, family_published}
 use Rattle.apdu.specs.Words.{or_else}
 use Rattle.rules.specs.Due.{with_card, with_ended, is_lost, loaded, outcome_answer, on_handle, raw_on_handle, first_command, first_of_turn, command_by_stage, command_by_chain, reset_by_stage, event_by_stage, event_of, is_resetting, published_by, answer_of_begun, answer_of_actor, due_of_actor, due_by_answer, due_by_publication, due_by_refusal, due_by_event, due_by_reset, due_by_command, due_by_end, due, due_command, is_reset_due, tried_event, due_publication, due_answer}
 use Rattle.rules.specs.Performed.{ends_turn}
 use Rattle.performed.specs.Served.{is_served}
 use Rattle.performed.proofs.ProgressSound.{lives_or_ended}
-use Rattle.performed.proofs.Handles.{all_found}
+use Rattle.performed.proofs.EditsDecides.{none_missing}
+use Rattle.performed.proofs.Lists.{all_found}
 use Rattle.performed.proofs.ProgressHandles.{is_sound_handle, are_sound_handles}
 
 -- ---- the walk: what is due first is a line
@@ -118,17 +122,6 @@ pub record IsFreshTurn (k : Kept) (actor : ℕ) : Type 0 where
   pub stage : k.turn.stage ≡ fresh
   pub published : k.turn.published ≡ None
 
--- no path is missing: all are current
-present_or : (path : List ℕ) (rest : Option (List ℕ)) (b : Bool) → (if not b then Some path else rest) ≡ None → (b ≡ true) × (rest ≡ None)
-present_or path rest true h = (refl, h)
-present_or path rest false h = absurd (cc)
-
-none_missing : (files : List CachedFile) (paths : List (List ℕ)) → first_missing files paths ≡ None → all_current files paths ≡ true
-none_missing files [] h = refl
-none_missing files (path ∷ paths) h =
-    let q = present_or path (first_missing files paths) (is_current files path) h in
-    and_from (is_current files path) (all_current files paths) q.0 (none_missing files paths q.1)
-
 abbrev read_of : Option (List ℕ) → Work
 read_of None = rests
 read_of (Some path) = reads path
@@ -138,7 +131,7 @@ read_is None = refl
 read_is (Some path) = refl
 
 module _ (s : Script) (k : Kept) (actor : ℕ) (t : IsFreshTurn k actor) where
-  first_sent : is_some (due_command k) ≡ is_some (first_command k.selected (job_of actor k.jobs) k.turn.work)
+  pub first_sent : is_some (due_command k) ≡ is_some (first_command k.selected (job_of actor k.jobs) k.turn.work)
   first_sent =
       ap (λ (o : Option Chain). is_some (command_by_chain k o)) t.chain
       ∙ ap (λ (st : Stage). is_some (command_by_stage k st)) t.stage
@@ -147,7 +140,7 @@ module _ (s : Script) (k : Kept) (actor : ℕ) (t : IsFreshTurn k actor) where
   pub sends_goes : (c : CommandValue) → k.turn.work ≡ sends c → ends_turn (due s k) ≡ false
   sends_goes c w = goes_by_command s k (first_sent ∙ ap (λ (x : Work). is_some (first_command k.selected (job_of actor k.jobs) x)) w)
 
-  reads_goes : (path : List ℕ) → k.turn.work ≡ reads path → ends_turn (due s k) ≡ false
+  pub reads_goes : (path : List ℕ) → k.turn.work ≡ reads path → ends_turn (due s k) ≡ false
   reads_goes path w = goes_by_command s k (first_sent ∙ ap (λ (x : Work). is_some (first_command k.selected (job_of actor k.jobs) x)) w)
 
   pub resets_goes : k.turn.work ≡ resets → ends_turn (due s k) ≡ false
@@ -184,6 +177,8 @@ pub record RunsAs (s : Script) (k before : Kept) (actor : ℕ) (b now : Begun) (
   pub lives : lives_or_ended before.history now.epoch now.ended ≡ true
   pub handles : k.handles ≡ before.handles
   pub held : are_sound_handles before.history before.handles ≡ true
+  pub told : now.told ≡ b.told
+  pub editing : now.editing ≡ with_attempt (work_of_operation before actor b op).attempt b.editing
 
 or_none : (a : Bool) → (a || false) ≡ true → a ≡ true
 or_none true h = refl
@@ -291,16 +286,20 @@ module _ (s : Script) (k before : Kept) (actor : ℕ) (b now : Begun) where
   either_given true x y = refl
   either_given false x y = refl
 
-  pub operation_goes : (op : Operation) → is_served op ≡ true → RunsAs s k before actor b now op → ends_turn (due s k) ≡ false
-  operation_goes (operation.Insert card) served r = happens_goes s k actor r.turn (world_event.Insert card) r.work
-  operation_goes operation.Out served r = happens_goes s k actor r.turn world_event.Out r.work
-  operation_goes (operation.Arm change) served r = happens_goes s k actor r.turn (world_event.Arm change) r.work
-  operation_goes (operation.Load f) served r = load_of f now.epoch r refl
-  operation_goes (operation.OpenChannel handle aid) served r = sent_of open_command (operation.OpenChannel handle aid) r (record { work = r.work; answer = refl }) now.epoch refl
-  operation_goes (operation.Raw handle apdu) served r = raw_of handle apdu r (handle_of actor handle before.handles) refl
-  operation_goes (operation.Close handle) served r = close_of handle r (handle_of actor handle before.handles) refl
-  operation_goes (operation.Verify key pin) served r = sent_of (verify_command key pin) (operation.Verify key pin) r (record { work = r.work; answer = refl }) now.epoch refl
-  operation_goes operation.Poll served r = sent_of status_command operation.Poll r (record { work = r.work; answer = refl }) now.epoch refl
-  operation_goes (operation.End key) served r = goes_by_answer s k (ap is_some (answers (operation.End key) r) ∙ either_given (has_session actor key k.sessions) answer.Ended (answer.NotHeldKey key))
-  operation_goes operation.Look served r = goes_by_answer s k (ap is_some (answers operation.Look r))
-  operation_goes op served r = absurd (true≢false (sym served))
+  -- given what becomes of an edit
+  pub operation_goes : (op : Operation) → is_served op ≡ true → RunsAs s k before actor b now op → ((f : ℕ) (e : Edit) → family_edit op ≡ Some (f, e) → ends_turn (due s k) ≡ false) → ends_turn (due s k) ≡ false
+  operation_goes (operation.Insert card) served r edits = happens_goes s k actor r.turn (world_event.Insert card) r.work
+  operation_goes operation.Out served r edits = happens_goes s k actor r.turn world_event.Out r.work
+  operation_goes (operation.Arm change) served r edits = happens_goes s k actor r.turn (world_event.Arm change) r.work
+  operation_goes (operation.Load f) served r edits = load_of f now.epoch r refl
+  operation_goes (operation.OpenChannel handle aid) served r edits = sent_of open_command (operation.OpenChannel handle aid) r (record { work = r.work; answer = refl }) now.epoch refl
+  operation_goes (operation.Raw handle apdu) served r edits = raw_of handle apdu r (handle_of actor handle before.handles) refl
+  operation_goes (operation.Close handle) served r edits = close_of handle r (handle_of actor handle before.handles) refl
+  operation_goes (operation.Verify key pin) served r edits = sent_of (verify_command key pin) (operation.Verify key pin) r (record { work = r.work; answer = refl }) now.epoch refl
+  operation_goes operation.Poll served r edits = sent_of status_command operation.Poll r (record { work = r.work; answer = refl }) now.epoch refl
+  operation_goes (operation.End key) served r edits = goes_by_answer s k (ap is_some (answers (operation.End key) r) ∙ either_given (has_session actor key k.sessions) answer.Ended (answer.NotHeldKey key))
+  operation_goes operation.Look served r edits = goes_by_answer s k (ap is_some (answers operation.Look r))
+  operation_goes (operation.Set f at name number) served r edits = edits f (edit.Set at (record { name = name; number = number })) refl
+  operation_goes (operation.Clear f at) served r edits = edits f (edit.Clear at) refl
+  operation_goes (operation.Watch mask) served r edits = goes_by_answer s k (ap is_some (answers (operation.Watch mask) r))
+  operation_goes operation.Notices served r edits = goes_by_answer s k (ap is_some (answers operation.Notices r))

@@ -17,7 +17,8 @@ use Rattle.rules.specs.Kept.{job_of, begun_of, operation_at}
 use Rattle.rules.specs.After.{ended_by, handles_given, kept_after, kept_of}
 use Rattle.performed.specs.Followed.{is_followed, are_followed}
 use Rattle.performed.proofs.ProgressSound.{lives_or_ended, lives_step, IsSoundOption, IsSoundJob, sound}
-use Rattle.performed.proofs.Handles.{given_good, all_mapped, all_still, Opens, opens}
+use Rattle.performed.proofs.Handles.{given_good, Opens, opens}
+use Rattle.performed.proofs.Lists.{all_mapped, all_still}
 
 abbrev pub is_sound_handle : Past → Handle → Bool
 is_sound_handle history h = lives_or_ended history (Some h.epoch) h.ended

@@ -80,11 +80,11 @@ waits h n op edited =
     else edited
 
 -- who edits the family, and whom the operation waits for
-abbrev editing_by : Script → Kept → Option (ℕ × Edit) → Option ℕ
+abbrev pub editing_by : Script → Kept → Option (ℕ × Edit) → Option ℕ
 editing_by s k None = None
 editing_by s k (Some e) = first_actor (edits_family s k e.0) 0 s.actors
 
-editing_of : (s : Script) (k : Kept) (o : Option (ℕ × Edit)) → editing_by s k o ≡ (elim o [ None ↦ None | Some e ↦ first_actor (edits_family s k e.0) 0 s.actors ])
+pub editing_of : (s : Script) (k : Kept) (o : Option (ℕ × Edit)) → editing_by s k o ≡ (elim o [ None ↦ None | Some e ↦ first_actor (edits_family s k e.0) 0 s.actors ])
 editing_of s k None = refl
 editing_of s k (Some e) = refl
 
@@ -115,7 +115,7 @@ module _ (s : Script) (x y : Kept) (w : SameWork x y) where
       ap (λ (o : Option ℕ). is_none o && not (has_work x)) open_same
       ∙ ap (λ (b : Bool). all_answered s y && not b) work_same
 
-  pub now_same : (actor : ℕ) → operation_now s actor x.jobs ≡ operation_now s actor y.jobs
+  now_same : (actor : ℕ) → operation_now s actor x.jobs ≡ operation_now s actor y.jobs
   now_same actor = now_seen s actor (begun_of actor x.jobs) ∙ ap (operation_seen s actor) (w.jobs actor).begun ∙ sym (now_seen s actor (begun_of actor y.jobs))
 
   begun_same : (actor : ℕ) → is_some (begun_of actor x.jobs) ≡ is_some (begun_of actor y.jobs)

@@ -1,8 +1,7 @@
 -- A turn that neither waits nor finds nothing left has something to do, also behind the line that begins its operation.
-use Rattle.std.proofs.Common.{◌≡◌, ℕ, zero, suc, ◌+◌, ◌&&◌, ◌||◌, not, Bool, true, false, if◌then◌else◌, List, [], ◌∷◌, length, Option, Some, None, is_some, is_none, refl, sym, ap, ◌∙◌, arith, true≢false, length-set}
-use Rattle.std.specs.Prelude.{option_map, slice_get, nat_lt, unwrap_or}
+use Rattle.std.proofs.Common.{◌≡◌, ℕ, zero, suc, ◌+◌, ◌&&◌, ◌||◌, not, Bool, true, false, if◌then◌else◌, List, [], ◌∷◌, length, Option, Some, None, is_some, is_none, refl, sym, ap, ◌∙◌, true≢false}
+use Rattle.std.specs.Prelude.{option_map, nat_le}
 use Rattle.std.proofs.lemmas.Bool.{and_parts, or_parts}
-use Rattle.std.proofs.lemmas.List.{length-map, length-replicate}
 use Rattle.apdu.specs.Values.{CommandValue, ResponseValue}
 use Rattle.script_reader.specs.declared.types.Script.{Script}
 use Rattle.script_reader.specs.declared.types.Operation.{Operation}
@@ -12,9 +11,11 @@ use Rattle.families.specs.Families.{family_paths}
 use Rattle.link.specs.declared.chain.Final.{Final}
 use Rattle.loader.specs.declared.reading.RefusedReading.{RefusedReading}
 use Rattle.editor.specs.declared.editing.Attempt.{Attempt}
+use Rattle.editor.specs.Editing.{moved_editing, no_editing, with_attempt}
 use Rattle.epoch_cache.specs.declared.cached.CachedFile.{CachedFile}
 use Rattle.refresher.specs.Refresh.{startup_command, fetch_command}
 use Rattle.rules.specs.declared.kept.Begun.{Begun}
+use Rattle.rules.specs.declared.kept.Decision.{Decision}
 use Rattle.rules.specs.declared.kept.Facts.{Facts}
 use Rattle.rules.specs.declared.kept.Job.{Job}
 use Rattle.rules.specs.declared.kept.Kept.{Kept}
@@ -24,20 +25,25 @@ use Rattle.rules.specs.declared.kept.Work.{Work}
 use Rattle.rules.specs.declared.kept.Work.TheVariants.{Rests as rests, Sends as sends, Resets as resets}
 use Rattle.rules.specs.declared.due.Due.TheVariants.{Begin as begin, WaitFor as wait_for, EndOfActor as end_of_actor, Rest as rest}
 use Rattle.rules.specs.Standing.{first_stale}
-use Rattle.rules.specs.Kept.{actor_count, first_job, operation_at, job_of, begun_of, begun_operation, operation_now, changed_at}
-use Rattle.rules.specs.Work.{is_starting, has_work_alive, has_work, has_operations_left, first_actor, all_answered, is_finished, has_ended, waits_on, is_idle, reads_first, read_stale, first_item, framework_work, family_read}
-use Rattle.rules.specs.After.{facts_of, decision_at, decision_of_begun, family_of_begun, fresh_begun, begun_with, job_beside, jobs_beside, own_job, actor_of, jobs_of_actor, opened_behind, refused_of, turn_answered, turn_exchanged, kept_after, kept_of}
+use Rattle.rules.specs.Kept.{actor_count, operation_at, job_of, begun_of, begun_operation, operation_now}
+use Rattle.rules.specs.Work.{is_starting, has_work_alive, has_work, has_operations_left, first_actor, all_answered, is_finished, has_ended, waits_on, is_idle, reads_first, read_stale, first_item, framework_work, family_read, work_of_operation}
+use Rattle.rules.specs.After.{edit_of, facts_of, decision_at, decision_of_begun, family_of_begun, fresh_begun, begun_with, jobs_beside, opened_behind, refused_of, turn_answered, turn_exchanged, kept_after, kept_of}
 use Rattle.rules.specs.Channels.{held_numbers}
 use Rattle.rules.specs.Due.{begin_or_rest, due}
+use Rattle.rules.specs.Laws.{KeptAgrees, PlansForCard}
 use Rattle.rules.specs.Rules.{is_turn_of}
 use Rattle.rules.specs.Performed.{ends_turn, begins_as}
-use Rattle.performed.specs.Served.{is_served, serves}
+use Rattle.performed.specs.Served.{serves}
 use Rattle.performed.specs.Followed.{are_followed, begins_turn}
 use Rattle.performed.specs.Laws.{MarksMove, BeginsMove}
-use Rattle.performed.proofs.ProgressJobs.{changed_here}
-use Rattle.performed.proofs.ProgressMarks.{Seen, seen_of, SameWork, now_same, ended_same, waits_same, same_work, all_kept}
+use Rattle.performed.proofs.EditsBegun.{near, begun_marks}
+use Rattle.performed.proofs.EditsState.{unmoved_attempt}
+use Rattle.performed.proofs.ProgressEdits.{edit_goes}
+use Rattle.performed.proofs.ProgressReady.{AreReady, are_ready, fresh_ready}
+use Rattle.performed.proofs.JobPlaces.{begun_there, job_count}
+use Rattle.performed.proofs.ProgressMarks.{seen_of, SameWork, ended_same, waits_same, same_work, all_kept}
 use Rattle.performed.proofs.ProgressServed.{served_at}
-use Rattle.performed.proofs.ProgressBegins.{Starts, starts, nothing_below, some_below, operation_there}
+use Rattle.performed.proofs.ProgressBegins.{Starts, starts, operation_there}
 use Rattle.performed.proofs.ProgressSound.{lives_or_ended, IsSoundOption, IsSoundJob, fresh_lives, sound}
 use Rattle.performed.proofs.ProgressHandles.{are_sound_handles, sound_handles}
 use Rattle.performed.proofs.ProgressGoes.{IsFreshTurn, RunsAs, goes_by_actor, sends_goes, resets_goes, load_goes, operation_goes}
@@ -174,35 +180,44 @@ module _ (s : Script) (k : Kept) where
       (none_seen (begun_of (suc a) (marked (suc a)).jobs) ((w.jobs (suc a)).begun ∙ ap (option_map seen_of) none)))
 
   -- one under way goes on
-  module _ (held : are_sound_handles k.history k.handles ≡ true) where
-    runs : (a : ℕ) (b now : Begun) (op : Operation) → begun_of (suc a) k.jobs ≡ Some b → begun_of (suc a) (marked (suc a)).jobs ≡ Some now → seen_of now ≡ seen_of b → operation_at s (suc a) b.index ≡ Some op → lives_or_ended k.history b.epoch b.ended ≡ true → RunsAs s (marked (suc a)) k (suc a) b now op
-    runs a b now op eb en same eo lives =
-        let w : SameWork (marked (suc a)) k = same_work s k (suc a) in
+  module _ (held : are_sound_handles k.history k.handles ≡ true) (ready : AreReady s k) where
+    -- no event moves anything
+    editing_same : (a : ℕ) (b : Begun) → moved_editing (facts_of s (line.Turn a) k).touch b.editing ≡ b.editing
+    editing_same a b = ap (λ (o : Option Attempt). record b.editing { attempt = o }) (unmoved_attempt (facts_of s (line.Turn a) k).touch (λ path. refl) b.editing.decided b.editing.attempt)
+
+    abbrev marked_begun : ℕ → Begun → Begun
+    marked_begun a b = begun_with (decision_at s (line.Turn (suc a)) k).attempt (near s (line.Turn (suc a)) k b)
+
+    runs : (a : ℕ) (b : Begun) (op : Operation) → begun_of (suc a) k.jobs ≡ Some b → operation_at s (suc a) b.index ≡ Some op → lives_or_ended k.history b.epoch b.ended ≡ true → RunsAs s (marked (suc a)) k (suc a) b (marked_begun a b) op
+    runs a b op eb eo lives =
+        let begun : begun_of (suc a) (marked (suc a)).jobs ≡ Some (marked_begun a b) = begun_marks s k a b eb in
         let of : operation_now s (suc a) k.jobs ≡ Some op = ap (begun_operation s (suc a)) eb ∙ eo in
+        let decides : decision_at s (line.Turn (suc a)) k ≡ work_of_operation k (suc a) b op =
+        ap (λ (o : Option Begun). decision_of_begun k (suc a) o (operation_now s (suc a) k.jobs)) eb
+        ∙ ap (λ (o : Option Operation). decision_of_begun k (suc a) (Some b) o) of in
         record {
           turn = marked_fresh (suc a);
-          begun = en;
-          operation = now_same s (marked (suc a)) k w (suc a) ∙ of;
-          work = ap (λ (o : Option Begun). (decision_of_begun k (suc a) o (operation_now s (suc a) k.jobs)).work) eb ∙ ap (λ (o : Option Operation). (decision_of_begun k (suc a) (Some b) o).work) of;
+          begun = begun;
+          operation = ap (begun_operation s (suc a)) begun ∙ eo;
+          work = ap (λ (d : Decision). d.work) decides;
           family = ap (λ (o : Option Begun). family_of_begun k o (operation_now s (suc a) k.jobs)) eb ∙ ap (λ (o : Option Operation). family_of_begun k (Some b) o) of;
           files = all_kept k.files;
-          epoch = ap (λ (v : Seen). v.1.0) same;
-          lives = ap (λ (v : Seen). lives_or_ended k.history v.1.0 v.1.1) same ∙ lives;
+          epoch = refl;
+          lives = lives;
           handles = refl;
           held = held;
+          told = refl;
+          editing =
+              ap (with_attempt (decision_at s (line.Turn (suc a)) k).attempt) (editing_same (suc a) b)
+              ∙ ap (λ (d : Decision). with_attempt d.attempt b.editing) decides;
         }
-
-    one_seen : (x y : Begun) → Some (seen_of x) ≡ Some (seen_of y) → seen_of x ≡ seen_of y
-    one_seen x y h = cc
-
-    now_goes : (a : ℕ) (b : Begun) (op : Operation) (o : Option Begun) → begun_of (suc a) k.jobs ≡ Some b → begun_of (suc a) (marked (suc a)).jobs ≡ o → option_map seen_of o ≡ Some (seen_of b) → operation_at s (suc a) b.index ≡ Some op → is_served op ≡ true → lives_or_ended k.history b.epoch b.ended ≡ true → ends_turn (due s (marked (suc a))) ≡ false
-    now_goes a b op None eb en same eo served lives = absurd (cc)
-    now_goes a b op (Some now) eb en same eo served lives = operation_goes s (marked (suc a)) k (suc a) b now op served (runs a b now op eb en (one_seen now b same) eo lives)
 
     begun_goes : (a : ℕ) (b : Begun) (o : Option Operation) → begun_of (suc a) k.jobs ≡ Some b → operation_at s (suc a) b.index ≡ o → is_some o ≡ true → serves s ≡ true → lives_or_ended k.history b.epoch b.ended ≡ true → ends_turn (due s (marked (suc a))) ≡ false
     begun_goes a b None eb eo there served lives = absurd (true≢false (sym there))
     begun_goes a b (Some op) eb eo there served lives =
-        now_goes a b op (begun_of (suc a) (marked (suc a)).jobs) eb refl (((same_work s k (suc a)).jobs (suc a)).begun ∙ ap (option_map seen_of) eb) eo (served_at s (suc a) b.index op served eo) lives
+        let r : RunsAs s (marked (suc a)) k (suc a) b (marked_begun a b) op = runs a b op eb eo lives in
+        operation_goes s (marked (suc a)) k (suc a) b (marked_begun a b) op (served_at s (suc a) b.index op served eo) r
+        (λ f e edits. edit_goes s (marked (suc a)) k (suc a) b (marked_begun a b) op r f e edits (ready (suc a) b f e eb (ap edit_of eo ∙ edits)))
 
     by_begun : (a : ℕ) (o : Option Begun) → begun_of (suc a) k.jobs ≡ o → IsSoundOption s k.history (suc a) o → serves s ≡ true → has_ended s k (suc a) ≡ false → waits_on s k (suc a) ≡ None → ends_turn (due s (marked (suc a))) ≡ false
     by_begun a None e p served ended waits = free_goes a e ended waits
@@ -213,11 +228,13 @@ module _ (s : Script) (k : Kept) where
         let q = or_parts (has_ended s k (suc a)) (is_some (waits_on s k (suc a))) idle in
         by_begun a (begun_of (suc a) k.jobs) refl p served q.0 (no_value (waits_on s k (suc a)) q.1)
 
-pub marks_move : MarksMove
-marks_move s lines zero served followed idle = framework_moves s (kept_of s lines) idle
-marks_move s lines (suc a) served followed idle =
-    let q = and_parts (are_followed s lines) (begins_turn s (kept_of s lines) (due s (kept_of s lines)) (suc a)) followed in
-    actor_moves s (kept_of s lines) (sound_handles s lines q.0) a (sound s lines q.0 (suc a)) served idle
+pub marks_move : KeptAgrees → PlansForCard → MarksMove
+marks_move agrees plans s lines zero rules served followed told idle = framework_moves s (kept_of s lines) idle
+marks_move agrees plans s lines (suc a) rules served followed told idle =
+    let k : Kept = kept_of s lines in
+    let q = and_parts (are_followed s lines) (begins_turn s k (due s k) (suc a)) followed in
+    let ends = (and_parts (ends_turn (due s k)) (not (is_finished s k)) (and_parts (ends_turn (due s k) && not (is_finished s k)) (nat_le (suc a) (actor_count s)) q.1).0).0 in
+    actor_moves s k (sound_handles s lines q.0) (are_ready agrees plans s rules served lines q.0 told ends) a (sound s lines q.0 (suc a)) served idle
 
 -- ---- behind the line that begins an operation
 
@@ -255,40 +272,6 @@ bare_mark s (line.EpochEnd n v p ∷ e) h = absurd (true≢false (sym h))
 bare_mark s (line.Refused f n ∷ e) h = absurd (true≢false (sym h))
 bare_mark s (line.Answered a i given ∷ e) h = absurd (true≢false (sym h))
 
--- each actor has a job
-changed_length : (n : ℕ) (f : Job → Job) (xs : List Job) (o : Option Job) → length (changed_at n f xs o) ≡ length xs
-changed_length n f xs None = refl
-changed_length n f xs (Some x) = length-set xs n (f x)
-
-own_length : (s : Script) (l : Line) (k : Kept) (facts : Facts) (attempt : Option Attempt) (o : Option ℕ) (xs : List Job) → length (jobs_of_actor s l k facts attempt o xs) ≡ length xs
-own_length s l k facts attempt None xs = refl
-own_length s l k facts attempt (Some a) xs = changed_length a (own_job s l k facts attempt) xs (slice_get xs a)
-
-job_count : (s : Script) (lines : List Line) → length (kept_of s lines).jobs ≡ actor_count s + 1
-job_count s [] = length-replicate (actor_count s + 1) first_job
-job_count s (l ∷ e) =
-    own_length s l (kept_of s e) (facts_of s l (kept_of s e)) (decision_at s l (kept_of s e)).attempt (actor_of l) (jobs_beside l (kept_of s e).history.epoch (facts_of s l (kept_of s e)) (kept_of s e).selected (kept_of s e).jobs)
-    ∙ length-map (kept_of s e).jobs (job_beside l (kept_of s e).history.epoch (facts_of s l (kept_of s e)) (kept_of s e).selected)
-    ∙ job_count s e
-
-first_below : (n : ℕ) → nat_lt 0 (suc n) ≡ true
-first_below n = grind arith
-
-next_below : (b n : ℕ) → nat_lt b n ≡ true → nat_lt (suc b) (suc n) ≡ true
-next_below b n h = grind arith
-
-actor_there : (xs : List (List Operation)) (b n : ℕ) → nat_lt n (length (unwrap_or (slice_get xs b) [])) ≡ true → nat_lt b (length xs) ≡ true
-actor_there [] b n h = absurd (nothing_below n h)
-actor_there (ops ∷ xs) zero n h = first_below (length xs)
-actor_there (ops ∷ xs) (suc b) n h = next_below b (length xs) (actor_there xs b n h)
-
-below_one_more : (b n : ℕ) → nat_lt b n ≡ true → nat_lt (suc b) (n + 1) ≡ true
-below_one_more b n h = grind arith
-
-has_place : (s : Script) (k : Kept) (a : ℕ) → has_operations_left s k a ≡ true → nat_lt a (actor_count s + 1) ≡ true
-has_place s k zero h = absurd (nothing_below (job_of zero k.jobs).answered h)
-has_place s k (suc a) h = below_one_more a (actor_count s) (actor_there s.actors a (job_of (suc a) k.jobs).answered h)
-
 module _ (s : Script) (k : Kept) (a i : ℕ) (t : Starts s k a i) (undone : IsUndone k) (held : are_sound_handles k.history k.handles ≡ true) where
   abbrev begun_kept : Kept
   begun_kept = kept_after s (line.Begin a i) k
@@ -298,13 +281,6 @@ module _ (s : Script) (k : Kept) (a i : ℕ) (t : Starts s k a i) (undone : IsUn
 
   abbrev now_begun : Begun
   now_begun = begun_with (decision_at s (line.Begin a i) k).attempt fresh_one
-
-  abbrev beside_begin : List Job
-  beside_begin = jobs_beside (line.Begin a i) k.history.epoch (facts_of s (line.Begin a i) k) k.selected k.jobs
-
-  job_place : (o : Option Job) → slice_get beside_begin a ≡ o → is_some o ≡ true → begun_of a begun_kept.jobs ≡ Some now_begun
-  job_place None e h = absurd (true≢false (sym h))
-  job_place (Some x) e h = ap (λ (job : Job). job.begun) (changed_here (own_job s (line.Begin a i) k (facts_of s (line.Begin a i) k) (decision_at s (line.Begin a i) k).attempt) beside_begin a x e)
 
   fresh_turn : IsFreshTurn begun_kept a
   fresh_turn = record { chain = refl; actor_is = t.turn; stage = undone.0; published = undone.1 }
@@ -321,14 +297,16 @@ module _ (s : Script) (k : Kept) (a i : ℕ) (t : Starts s k a i) (undone : IsUn
     lives = fresh_lives i k.history;
     handles = refl;
     held = held;
+    told = refl;
+    editing = ap (λ (o : Option Operation). with_attempt (decision_of_begun k a (Some fresh_one) o).attempt no_editing) eo;
   }
 
   begun_moves : (o : Option Operation) → operation_at s a i ≡ o → is_some o ≡ true → serves s ≡ true → length k.jobs ≡ actor_count s + 1 → ends_turn (due s begun_kept) ≡ false
   begun_moves None e there served count = absurd (true≢false (sym there))
   begun_moves (Some op) e there served count =
-      let long : length beside_begin ≡ actor_count s + 1 = length-map k.jobs (job_beside (line.Begin a i) k.history.epoch (facts_of s (line.Begin a i) k) k.selected) ∙ count in
-      let place : is_some (slice_get beside_begin a) ≡ true = some_below beside_begin a (ap (nat_lt a) long ∙ has_place s k a t.left) in
-      operation_goes s begun_kept k a fresh_one now_begun op (served_at s a i op served e) (fresh_runs op e (job_place (slice_get beside_begin a) refl place))
+      let r : RunsAs s begun_kept k a fresh_one now_begun op = fresh_runs op e (begun_there s k a i t count) in
+      operation_goes s begun_kept k a fresh_one now_begun op (served_at s a i op served e) r
+      (λ f d edits. edit_goes s begun_kept k a fresh_one now_begun op r f d edits (fresh_ready k.history k.history i))
 
 pub begins_move : BeginsMove
 begins_move s lines a i served followed =

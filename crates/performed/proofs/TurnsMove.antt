@@ -3,6 +3,7 @@ use Rattle.std.proofs.Common.{◌≡◌, ℕ, zero, suc, ◌++◌, not, Bool, tr
 use Rattle.std.specs.Prelude.{is_none}
 use Rattle.std.proofs.lemmas.Bool.{and_parts, eqb-true}
 use Rattle.script_reader.specs.declared.types.Script.{Script}
+use Rattle.script_reader.specs.Rules.{keeps_rules}
 use Rattle.report.specs.declared.line.Line.{Line}
 use Rattle.report.specs.declared.line.Line.TheVariants as line
 use Rattle.rules.specs.declared.kept.Kept.{Kept}
@@ -14,14 +15,17 @@ use Rattle.rules.specs.Performed.{ends_turn, begins_as, is_refusal_told}
 use Rattle.rules.specs.After.{is_mark, kept_after, kept_of}
 use Rattle.performed.specs.Served.{serves}
 use Rattle.performed.specs.Followed.{are_followed, is_followed}
+use Rattle.performed.specs.Told.{are_told}
 use Rattle.performed.specs.Progress.{Moves}
-use Rattle.performed.specs.Laws.{has_no_mark, TurnsMove}
+use Rattle.performed.specs.Laws.{has_no_mark, MarksMove, TurnsMove}
 use Rattle.performed.proofs.TurnsSays.{turn_done, BeginsNow, begins_now}
 use Rattle.performed.proofs.TurnsKept.{GoesOn, goes_on, then_on, first_on, both_on, event_moves, answer_moves}
 use Rattle.performed.proofs.TurnsStale.{keeps_time}
 use Rattle.performed.proofs.TurnsPhase.{Publishes, publishes, end_stands, refusal_stands, framework_moves}
-use Rattle.performed.proofs.TurnsLoad.{Loads, marked_load, begin_load, load_answered, has_job}
-use Rattle.performed.proofs.ProgressMoves.{marks_move, begins_move}
+use Rattle.performed.proofs.TurnsPublish.{HasPublisher, marked_publisher, begin_publisher, publisher_answered}
+use Rattle.performed.proofs.JobPlaces.{job_count}
+use Rattle.performed.proofs.ProgressBegins.{Starts, starts}
+use Rattle.performed.proofs.ProgressMoves.{begins_move}
 use Rattle.performed.proofs.Plain.{keeps}
 
 -- ---- how far a turn is
@@ -31,7 +35,7 @@ record IsCalm (k : Kept) : Type 0 where
   ended : k.turn.ended ≡ None
   refused : k.turn.refused ≡ None
 
--- the family of its load is published, and the answer is due
+-- the family of its operation is published, and the answer is due
 record IsTold (s : Script) (k : Kept) : Type 0 where
   calm : IsCalm k
   number : ℕ
@@ -45,7 +49,7 @@ behind s earlier a added = kept_of s (added ++ line.Turn a ∷ earlier)
 data Phase (s : Script) (earlier : List Line) (a : ℕ) (added : List Line) : Type 0 where
   moved : Moves s (kept_of s earlier) (behind s earlier a added) → Phase s earlier a added
   marked : added ≡ [] → Phase s earlier a added
-  begun : (i : ℕ) → added ≡ line.Begin a i ∷ [] → Phase s earlier a added
+  begun : (i : ℕ) → added ≡ line.Begin a i ∷ [] → Starts s (behind s earlier a []) a i → Phase s earlier a added
   told : IsTold s (behind s earlier a added) → Phase s earlier a added
 
 module _ (s : Script) (serving : serves s ≡ true) (earlier : List Line) (a : ℕ) where
@@ -61,12 +65,12 @@ module _ (s : Script) (serving : serves s ≡ true) (earlier : List Line) (a : �
 
   -- ---- what a publication leaves
 
-  publication_told : (k : Kept) (actor number f e n : ℕ) (text : List ℕ) → IsCalm k → Loads s k actor → k.turn.actor ≡ Some actor → IsTold s (kept_after s (line.Published number f e n text) k)
-  publication_told k actor number f e n text calm loads whose = record {
+  publication_told : (k : Kept) (actor number f e n : ℕ) (text : List ℕ) → IsCalm k → HasPublisher s k actor → k.turn.actor ≡ Some actor → is_some k.turn.family ≡ true → IsTold s (kept_after s (line.Published number f e n text) k)
+  publication_told k actor number f e n text calm p whose family = record {
     calm = record { ended = calm.ended; refused = calm.refused };
     number = number;
     published = refl;
-    answer = load_answered s k actor loads number f e n text whose;
+    answer = publisher_answered s k actor p number f e n text whose family;
   }
 
 -- behind the mark
@@ -79,8 +83,8 @@ mark_publishes s serving earlier zero number f e n text h =
 mark_publishes s serving earlier (suc b) number f e n text h =
     let k : Kept = behind s earlier (suc b) [] in
     let p : Publishes k f n = publishes s k number f e n text h in
-    let loads : Loads s k (suc b) = marked_load s (kept_of s earlier) (suc b) (suc b) f serving p.family in
-    told (publication_told s serving earlier (suc b) k (suc b) number f e n text (record { ended = refl; refused = refl }) loads refl)
+    let q : HasPublisher s k (suc b) = marked_publisher s (kept_of s earlier) b f p.family in
+    told (publication_told s serving earlier (suc b) k (suc b) number f e n text (record { ended = refl; refused = refl }) q refl (ap is_some p.family))
 
 module _ (s : Script) (serving : serves s ≡ true) (earlier : List Line) (a : ℕ) where
   -- a line behind those that moved nothing, given what comes of a begin and of a publication
@@ -101,7 +105,7 @@ module _ (s : Script) (serving : serves s ≡ true) (earlier : List Line) (a : �
       from (line.Published number g e n text) u h f = publishes number g e n text h
       from (line.EpochEnd number e n) u h f = absurd (end_stands s now number e n h calm.ended)
       from (line.Refused g n) u h f = absurd (refusal_told g n h)
-      from (line.Answered x op given) u h f = moves_now s serving earlier a (line.Answered x op given) added (answer_moves s now x op given h (keeps s (added ++ line.Turn a ∷ earlier) serving f))
+      from (line.Answered x op given) u h f = moves_now s serving earlier a (line.Answered x op given) added (answer_moves s now x op given h (keeps s (added ++ line.Turn a ∷ earlier) f))
       from (line.Exchange x c r) u h f = event (line.Exchange x c r) refl
       from (line.Failed x c d) u h f = event (line.Failed x c d) refl
       from (line.Reset x) u h f = event (line.Reset x) refl
@@ -112,13 +116,14 @@ module _ (s : Script) (serving : serves s ≡ true) (earlier : List Line) (a : �
   own_begin : (x i : ℕ) → is_followed s (behind s earlier a []) (line.Begin x i) ≡ true → Phase s earlier a (line.Begin x i ∷ [])
   own_begin x i h =
       let p = and_parts (is_turn_of x (behind s earlier a []).turn) (begins_as i (due s (behind s earlier a []))) h in
-      begun i (ap (λ (n : ℕ). line.Begin n i ∷ []) (sym (eqb-true a x p.0)))
+      let same : x ≡ a = sym (eqb-true a x p.0) in
+      begun i (ap (λ (n : ℕ). line.Begin n i ∷ []) same) (subst (λ (n : ℕ). Starts s (behind s earlier a []) n i) same (starts s (behind s earlier a []) i x h))
 
   from_mark : (l : Line) → is_mark l ≡ false → is_followed s (behind s earlier a []) l ≡ true → are_followed s (line.Turn a ∷ earlier) ≡ true → Phase s earlier a (l ∷ [])
   from_mark = from [] (record { ended = refl; refused = refl }) own_begin (mark_publishes s serving earlier a)
 
   -- behind the begin
-  module _ (i : ℕ) where
+  module _ (i : ℕ) (st : Starts s (behind s earlier a []) a i) where
     abbrev front : List Line
     front = line.Begin a i ∷ []
 
@@ -126,8 +131,8 @@ module _ (s : Script) (serving : serves s ≡ true) (earlier : List Line) (a : �
     begin_publishes number f e n text h =
         let k : Kept = behind s earlier a front in
         let p : Publishes k f n = publishes s k number f e n text h in
-        let loads : Loads s k a = begin_load s (behind s earlier a []) a i f serving (has_job s (line.Turn a ∷ earlier) a i) p.family in
-        told (publication_told s serving earlier a k a number f e n text (record { ended = refl; refused = refl }) loads refl)
+        let q : HasPublisher s k a = begin_publisher s (behind s earlier a []) a i f st (job_count s (line.Turn a ∷ earlier)) p.family in
+        told (publication_told s serving earlier a k a number f e n text (record { ended = refl; refused = refl }) q refl (ap is_some p.family))
 
     begins_once : (x j : ℕ) → is_followed s (behind s earlier a front) (line.Begin x j) ≡ true → ⊥
     begins_once x j h =
@@ -160,7 +165,7 @@ module _ (s : Script) (serving : serves s ≡ true) (earlier : List Line) (a : �
   step : (l : Line) (added : List Line) → is_mark l ≡ false → Phase s earlier a added → Follows l added
   step l added u (moved m) = λ h f. moved (then_on s (kept_of s earlier) (behind s earlier a added) (behind s earlier a (l ∷ added)) m (goes_on s l (behind s earlier a added)))
   step l added u (marked e) = subst (λ (xs : List Line). Follows l xs) (sym e) (from_mark l u)
-  step l added u (begun i e) = subst (λ (xs : List Line). Follows l xs) (sym e) (from_begin i l u)
+  step l added u (begun i e st) = subst (λ (xs : List Line). Follows l xs) (sym e) (from_begin i st l u)
   step l added u (told t) = from_told added t l u
 
   not_true : (b : Bool) → not b ≡ true → b ≡ false
@@ -176,12 +181,12 @@ module _ (s : Script) (serving : serves s ≡ true) (earlier : List Line) (a : �
 
   -- ---- its end
 
-  module _ (idle : is_idle s (kept_of s earlier) a ≡ false) where
+  module _ (marks : MarksMove) (rules : keeps_rules s ≡ true) (tells : are_told s earlier ≡ true) (idle : is_idle s (kept_of s earlier) a ≡ false) where
     abbrev Ends : List Line → Type 0
     Ends added = are_followed s (added ++ line.Turn a ∷ earlier) ≡ true → ends_turn (due s (behind s earlier a added)) ≡ true → ⊥
 
     mark_goes_on : Ends []
-    mark_goes_on f ends = true≢false (sym ends ∙ marks_move s earlier a serving f idle)
+    mark_goes_on f ends = true≢false (sym ends ∙ marks s earlier a rules serving f tells idle)
 
     begin_goes_on : (i : ℕ) → Ends (line.Begin a i ∷ [])
     begin_goes_on i f ends = true≢false (sym ends ∙ begins_move s (line.Turn a ∷ earlier) a i serving f)
@@ -192,8 +197,8 @@ module _ (s : Script) (serving : serves s ≡ true) (earlier : List Line) (a : �
     finish : (added : List Line) → Phase s earlier a added → are_followed s (added ++ line.Turn a ∷ earlier) ≡ true → ends_turn (due s (behind s earlier a added)) ≡ true → Moves s (kept_of s earlier) (behind s earlier a added)
     finish added (moved m) f ends = m
     finish added (marked e) f ends = absurd (subst (λ (xs : List Line). Ends xs) (sym e) mark_goes_on f ends)
-    finish added (begun i e) f ends = absurd (subst (λ (xs : List Line). Ends xs) (sym e) (begin_goes_on i) f ends)
+    finish added (begun i e st) f ends = absurd (subst (λ (xs : List Line). Ends xs) (sym e) (begin_goes_on i) f ends)
     finish added (told t) f ends = absurd (told_goes_on added t f ends)
 
-pub turns_move : TurnsMove
-turns_move s earlier added a serving followed unmarked idle ends = finish s serving earlier a idle added (phase s serving earlier a added followed unmarked) followed ends
+pub turns_move : MarksMove → TurnsMove
+turns_move marks s earlier added a rules serving followed tells unmarked idle ends = finish s serving earlier a marks rules tells idle added (phase s serving earlier a added followed unmarked) followed ends

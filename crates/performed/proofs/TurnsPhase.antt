@@ -1,4 +1,4 @@
--- A turn in which nothing moved so far: it has its mark alone, or its mark and a begin, or it published a load's family and owes the answer.
+-- A turn in which nothing moved so far: it has its mark alone, or its mark and a begin, or it published its operation's family and owes the answer.
 use Rattle.std.proofs.Common.{◌≡◌, inr, ℕ, zero, ◌+◌, ◌<◌, ◌==◌, ◌&&◌, ◌||◌, not, Bool, true, false, if◌then◌else◌, List, [], ◌∷◌, Option, Some, None, is_some, refl, sym, ap, ◌∙◌, subst, true≢false}
 use Rattle.std.specs.Prelude.{is_none, option_map, option_and_then, map, find}
 use Rattle.std.proofs.lemmas.Bool.{and_parts, and_right, eqb-true}

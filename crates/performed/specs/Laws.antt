@@ -8,7 +8,10 @@ use Rattle.report.specs.declared.line.Mode.{Mode}
 use Rattle.report.specs.declared.line.Line.{Line}
 use Rattle.report.specs.declared.line.Line.TheVariants as line
 use Rattle.report.specs.declared.lines.Report.{Report}
-use Rattle.editor.specs.Editing.{no_editing}
+use Rattle.adn.specs.declared.edit.RowUpdate.{RowUpdate}
+use Rattle.families.specs.Plans.{plan_updates}
+use Rattle.editor.specs.declared.editing.Attempt.{Attempt}
+use Rattle.watchers.specs.declared.mailbox.Mailbox.{Mailbox}
 use Rattle.rules.specs.declared.holdings.Handle.{Handle}
 use Rattle.rules.specs.declared.kept.Begun.{Begun}
 use Rattle.rules.specs.declared.kept.Job.{Job}
@@ -49,9 +52,10 @@ TurnsEnd = (s : Script) (lines : List Line) (l : Line) → are_followed s (l ∷
 
 -- ---- turns move
 
--- a turn that neither waits nor finds nothing left has something to do
+-- a turn that neither waits nor finds nothing left has something to do, where the lines show what the slot gave: an attempt of an edit has
+-- an update to send only as long as a card answers it
 abbrev pub MarksMove : Type 0
-MarksMove = (s : Script) (lines : List Line) (a : ℕ) → serves s ≡ true → are_followed s (line.Turn a ∷ lines) ≡ true → is_idle s (kept_of s lines) a ≡ false → ends_turn (due s (kept_of s (line.Turn a ∷ lines))) ≡ false
+MarksMove = (s : Script) (lines : List Line) (a : ℕ) → keeps_rules s ≡ true → serves s ≡ true → are_followed s (line.Turn a ∷ lines) ≡ true → are_told s lines ≡ true → is_idle s (kept_of s lines) a ≡ false → ends_turn (due s (kept_of s (line.Turn a ∷ lines))) ≡ false
 
 -- so has one that begins an operation, also behind its first line
 abbrev pub BeginsMove : Type 0
@@ -83,7 +87,7 @@ abbrev pub has_no_mark : List Line → Bool
 has_no_mark lines = list_all (λ l. not (is_mark l)) lines
 
 abbrev pub TurnsMove : Type 0
-TurnsMove = (s : Script) (earlier added : List Line) (a : ℕ) → serves s ≡ true → are_followed s (added ++ line.Turn a ∷ earlier) ≡ true → has_no_mark added ≡ true → is_idle s (kept_of s earlier) a ≡ false → ends_turn (due s (kept_of s (added ++ line.Turn a ∷ earlier))) ≡ true → Moves s (kept_of s earlier) (kept_of s (added ++ line.Turn a ∷ earlier))
+TurnsMove = (s : Script) (earlier added : List Line) (a : ℕ) → keeps_rules s ≡ true → serves s ≡ true → are_followed s (added ++ line.Turn a ∷ earlier) ≡ true → are_told s earlier ≡ true → has_no_mark added ≡ true → is_idle s (kept_of s earlier) a ≡ false → ends_turn (due s (kept_of s (added ++ line.Turn a ∷ earlier))) ≡ true → Moves s (kept_of s earlier) (kept_of s (added ++ line.Turn a ∷ earlier))
 
 -- nobody's turn would move once it is
 abbrev pub NobodyMoves : Type 0
@@ -131,26 +135,41 @@ pub record AreCounted (n : ℕ) (k : Kept) : Type 0 where
 abbrev pub KeepsCounts : Type 0
 KeepsCounts = (s : Script) (lines : List Line) → AreCounted (length lines) (kept_of s lines)
 
--- an actor of a script that is served edits nothing, has no mailbox, and has answered at most its operations
-abbrev pub has_no_edit : Option Begun → Type 0
-has_no_edit None = Unit {0}
-has_no_edit (Some b) = b.editing ≡ no_editing
+-- the bytes of an update fit into a command
+abbrev pub is_short : RowUpdate → Bool
+is_short u = nat_le (length u.bytes) 255
 
-pub record IsPlainJob (job : Job) : Type 0 where
+-- those of all its updates do, and no more of them were sent than there were events
+abbrev pub IsShortPlan : ℕ → Option Attempt → Type 0
+IsShortPlan events None = Unit {0}
+IsShortPlan events (Some a) = (list_all is_short (plan_updates a.plan) ≡ true) × (a.sent ≤ events)
+
+abbrev pub HasShortPlan : ℕ → Option Begun → Type 0
+HasShortPlan events None = Unit {0}
+HasShortPlan events (Some b) = IsShortPlan events b.editing.attempt
+
+-- a mailbox dropped at most so many notices
+abbrev pub DropsAtMost : ℕ → Option Mailbox → Type 0
+DropsAtMost n None = Unit {0}
+DropsAtMost n (Some m) = m.dropped ≤ n
+
+-- an actor of a script that is served plans updates that fit into commands, dropped no more notices than there were publications, and has
+-- answered at most its operations
+pub record IsPlainJob (events publications : ℕ) (job : Job) : Type 0 where
   pub answered : job.answered ≤ 1000
-  pub editing : has_no_edit job.begun
-  pub mailbox : job.mailbox ≡ None
+  pub updates : HasShortPlan events job.begun
+  pub mailbox : DropsAtMost publications job.mailbox
 
-abbrev pub ArePlainJobs : List Job → Type 0
-ArePlainJobs [] = Unit {0}
-ArePlainJobs (job ∷ jobs) = IsPlainJob job × ArePlainJobs jobs
+abbrev pub ArePlainJobs : ℕ → ℕ → List Job → Type 0
+ArePlainJobs events publications [] = Unit {0}
+ArePlainJobs events publications (job ∷ jobs) = IsPlainJob events publications job × ArePlainJobs events publications jobs
 
 -- the number of a channel that it holds is that of a logical channel beside the basic one, ETSI TS 102 221 clause 8.7
 abbrev pub is_channel : Handle → Bool
 is_channel h = nat_le 1 h.number && nat_le h.number 19
 
 pub record IsPlain (k : Kept) : Type 0 where
-  pub jobs : ArePlainJobs k.jobs
+  pub jobs : ArePlainJobs k.history.events k.publications k.jobs
   pub handles : list_all is_channel k.handles ≡ true
 
 abbrev pub StaysPlain : Type 0

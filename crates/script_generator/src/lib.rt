@@ -12,4 +12,5 @@ mod rule_paths;
 mod usual;
 
 pub use bound::work;
+pub use laws::generated_keeps;
 pub use usual::generate;

@@ -1,6 +1,2 @@
-pub mod Marks
-pub mod Left
-pub mod Rounds
-pub mod Taken
-pub mod Turns
-pub mod Ends
+pub mod Words
+pub mod Unread

@@ -13,13 +13,38 @@ use Rattle.script_generator.specs.Generated.{generated}
 use Rattle.streams.specs.Streams.{SourceValue, SinkValue, StreamsValue, HasMore, IsRead, WritesWhole, WritesFront, Wrote}
 use Rattle.report.specs.declared.lines.Report.{Report}
 use Rattle.report.specs.Texts.{report_text}
-use Rattle.performed.specs.Served.{serves}
-use Rattle.uicc_replay.specs.Replay.{IsReplay, IsSpent}
+use Rattle.report_summary.specs.declared.summary.Summary.{Summary}
+use Rattle.report_summary.specs.Summary.{summary_of}
+use Rattle.replay.specs.Replay.{IsReplay, IsSpent}
 use Rattle.uicc_replay.specs.declared.top.Ending.{Ending}
-use Rattle.uicc_replay.specs.declared.top.Ending.TheVariants.{Usage, TooLong, Refused, ReadFault, Spent, Memory, Replayed, Generated}
+use Rattle.uicc_replay.specs.declared.top.Ending.TheVariants.{Usage, TooLong, Refused, ReadFault, Spent, Memory, Replayed, Generated, Counted}
 use Rattle.uicc_replay.specs.declared.top.Outcome.{Outcome}
-use Rattle.uicc_replay.specs.declared.words.Subcommand.{Subcommand}
-use Rattle.uicc_replay.specs.declared.words.Subcommand.TheVariants.{Replay, Generate}
+use Rattle.subcommands.specs.declared.words.Subcommand.{Subcommand}
+use Rattle.subcommands.specs.declared.words.Subcommand.TheVariants.{Replay, Run, Check, Generate, Bulk}
+
+-- ---- commands
+
+-- the command is served so far
+abbrev pub is_served : Subcommand → Bool
+is_served Replay = true
+is_served Run = false
+is_served Check = false
+is_served (Generate seed size) = true
+is_served (Bulk seed size) = true
+
+-- the command that is asked for, if it is served
+abbrev pub served : Option Subcommand → Option Subcommand
+served None = None
+served (Some command) = if is_served command then Some command else None
+
+-- the command reads the source
+abbrev pub reads : Option Subcommand → Bool
+reads None = false
+reads (Some Replay) = true
+reads (Some Run) = false
+reads (Some Check) = false
+reads (Some (Generate seed size)) = false
+reads (Some (Bulk seed size)) = false
 
 -- ---- what is written
 
@@ -29,9 +54,6 @@ usage_line = codes "usage: uicc_replay replay, run, check, gen SEED SIZE or bulk
 unfoldable pub too_long_line : List ℕ
 too_long_line = codes "too long\n"
 
-unfoldable pub later_line : List ℕ
-later_line = codes "refused other 0 later\n"
-
 -- the part, the index of its item, and the rule that it breaks
 abbrev pub refused_line : Refusal → List ℕ
 refused_line r = codes "refused " ++ part_word r.part ++ codes " " ++ decimal r.index ++ codes " " ++ why_word r.why ++ codes "\n"
@@ -39,6 +61,10 @@ refused_line r = codes "refused " ++ part_word r.part ++ codes " " ++ decimal r.
 -- so many events, by which the budget is spent
 abbrev pub budget_line : ℕ → List ℕ
 budget_line events = codes "budget " ++ decimal events ++ codes "\n"
+
+-- how much a run did
+abbrev pub summary_line : Summary → List ℕ
+summary_line s = codes "events " ++ decimal s.events ++ codes " publications " ++ decimal s.publications ++ codes " answers " ++ decimal s.answers ++ codes " refusals " ++ decimal s.refusals ++ codes "\n"
 
 -- the script of a seed and a size, and a newline
 unfoldable pub generated_text : ℕ → ℕ → List ℕ
@@ -61,9 +87,12 @@ line_of status =
 
 -- the statuses that the words can come to
 abbrev pub is_status : Option Subcommand → ℕ → Bool
-is_status None status = is_one_of status (2 ∷ 5 ∷ [])
+is_status None status = is_one_of status (2 ∷ 5 ∷ 9 ∷ [])
 is_status (Some Replay) status = is_one_of status (0 ∷ 3 ∷ 4 ∷ 5 ∷ 6 ∷ 8 ∷ 9 ∷ [])
+is_status (Some Run) status = is_one_of status (2 ∷ 5 ∷ 9 ∷ [])
+is_status (Some Check) status = is_one_of status (2 ∷ 5 ∷ 9 ∷ [])
 is_status (Some (Generate seed size)) status = is_one_of status (0 ∷ 5 ∷ 9 ∷ [])
+is_status (Some (Bulk seed size)) status = is_one_of status (0 ∷ 5 ∷ 6 ∷ 9 ∷ [])
 
 abbrev pub piece_of : Ending → List ℕ
 piece_of Usage = usage_line
@@ -74,6 +103,7 @@ piece_of (Spent line) = line
 piece_of Memory = memory_line
 piece_of (Replayed report text) = text
 piece_of (Generated text) = text
+piece_of (Counted report line) = line
 
 abbrev pub status_of : Ending → ℕ
 status_of Usage = 2
@@ -84,6 +114,7 @@ status_of (Spent line) = 6
 status_of Memory = 9
 status_of (Replayed report text) = 0
 status_of (Generated text) = 0
+status_of (Counted report line) = 0
 
 abbrev pub report_of : Ending → Option Report
 report_of Usage = None
@@ -94,6 +125,7 @@ report_of (Spent line) = None
 report_of Memory = None
 report_of (Replayed report text) = Some report
 report_of (Generated text) = None
+report_of (Counted report line) = Some report
 
 -- ---- reading
 
@@ -103,14 +135,9 @@ script_limit = 8388608
 
 -- ---- causes
 
--- a script that is not served is refused too
-abbrev pub line_unless : Bool → Option (List ℕ)
-line_unless false = Some later_line
-line_unless true = None
-
 abbrev pub line_of_reading : Result Script Refusal → Option (List ℕ)
 line_of_reading (Err refusal) = Some (refused_line refusal)
-line_of_reading (Ok s) = line_unless (serves s)
+line_of_reading (Ok s) = None
 
 -- the line that tells why bytes are not replayed, if they are not
 abbrev pub refusal_line : List ℕ → Option (List ℕ)
@@ -137,6 +164,7 @@ IsDueOfBudget events (Spent line) = line ≡ budget_line events
 IsDueOfBudget events Memory = Unit {0}
 IsDueOfBudget events (Replayed report text) = ⊥
 IsDueOfBudget events (Generated text) = ⊥
+IsDueOfBudget events (Counted report line) = ⊥
 
 -- the ending of a report
 abbrev pub IsDueOfReport : Report → Ending → Type 0
@@ -148,17 +176,19 @@ IsDueOfReport r (Spent line) = ⊥
 IsDueOfReport r Memory = Unit {0}
 IsDueOfReport r (Replayed report text) = (report ≡ r) × (text ≡ report_text report)
 IsDueOfReport r (Generated text) = ⊥
+IsDueOfReport r (Counted report line) = ⊥
 
 -- the ending of a script
 abbrev pub IsDueOfScript : Script → Ending → Type 0
 IsDueOfScript s Usage = ⊥
 IsDueOfScript s TooLong = ⊥
-IsDueOfScript s (Refused line) = line_unless (serves s) ≡ Some line
+IsDueOfScript s (Refused line) = ⊥
 IsDueOfScript s ReadFault = ⊥
 IsDueOfScript s (Spent line) = TellsSpent s line
 IsDueOfScript s Memory = Unit {0}
 IsDueOfScript s (Replayed report text) = (report.script ≡ s) × IsReplay report × (text ≡ report_text report)
 IsDueOfScript s (Generated text) = ⊥
+IsDueOfScript s (Counted report line) = ⊥
 
 -- the bytes are a script, and the line tells by how many events its budget is spent
 pub record TellsSpentOf (bytes line : List ℕ) : Type 0 where
@@ -176,6 +206,7 @@ IsDueOfBytes bytes (Spent line) = TellsSpentOf bytes line
 IsDueOfBytes bytes Memory = Unit {0}
 IsDueOfBytes bytes (Replayed report text) = (script_of_bytes bytes ≡ Ok report.script) × IsReplay report × (text ≡ report_text report)
 IsDueOfBytes bytes (Generated text) = ⊥
+IsDueOfBytes bytes (Counted report line) = ⊥
 
 -- bytes were read of which this is the ending
 pub record IsDueOfRead (before after : SourceValue) (e : Ending) : Type 0 where
@@ -193,6 +224,7 @@ IsDueOfSource before after (Spent line) = IsDueOfRead before after (Spent line)
 IsDueOfSource before after Memory = Unit {0}
 IsDueOfSource before after (Replayed report text) = IsDueOfRead before after (Replayed report text)
 IsDueOfSource before after (Generated text) = ⊥
+IsDueOfSource before after (Counted report line) = ⊥
 
 -- the ending of a generated script
 abbrev pub IsDueOfSizes : ℕ → ℕ → Ending → Type 0
@@ -204,22 +236,67 @@ IsDueOfSizes seed size (Spent line) = ⊥
 IsDueOfSizes seed size Memory = Unit {0}
 IsDueOfSizes seed size (Replayed report text) = ⊥
 IsDueOfSizes seed size (Generated text) = text ≡ generated_text seed size
+IsDueOfSizes seed size (Counted report line) = ⊥
+
+-- the ending of a report whose lines are counted
+abbrev pub IsDueOfCounts : Report → Ending → Type 0
+IsDueOfCounts r Usage = ⊥
+IsDueOfCounts r TooLong = ⊥
+IsDueOfCounts r (Refused line) = ⊥
+IsDueOfCounts r ReadFault = ⊥
+IsDueOfCounts r (Spent line) = ⊥
+IsDueOfCounts r Memory = Unit {0}
+IsDueOfCounts r (Replayed report text) = ⊥
+IsDueOfCounts r (Generated text) = ⊥
+IsDueOfCounts r (Counted report line) = (report ≡ r) × (line ≡ summary_line (summary_of report.lines))
+
+-- the ending of the replay of a generated script
+abbrev pub IsDueOfGenerated : ℕ → ℕ → Ending → Type 0
+IsDueOfGenerated seed size Usage = ⊥
+IsDueOfGenerated seed size TooLong = ⊥
+IsDueOfGenerated seed size (Refused line) = ⊥
+IsDueOfGenerated seed size ReadFault = ⊥
+IsDueOfGenerated seed size (Spent line) = TellsSpent (generated seed size) line
+IsDueOfGenerated seed size Memory = Unit {0}
+IsDueOfGenerated seed size (Replayed report text) = ⊥
+IsDueOfGenerated seed size (Generated text) = ⊥
+IsDueOfGenerated seed size (Counted report line) = (report.script ≡ generated seed size) × IsReplay report × (line ≡ summary_line (summary_of report.lines))
+
+-- a generated script is replayed, and nothing is read
+pub record IsCounted (seed size : ℕ) (before after : SourceValue) (e : Ending) : Type 0 where
+  pub due : IsDueOfGenerated seed size e
+  pub unread : after ≡ before
 
 -- a script is generated, and nothing is read
 pub record IsGenerated (seed size : ℕ) (before after : SourceValue) (e : Ending) : Type 0 where
   pub due : IsDueOfSizes seed size e
   pub unread : after ≡ before
 
--- words that are no command read nothing
+-- the ending of words that are no command that is served
+abbrev pub IsDueOfNone : Ending → Type 0
+IsDueOfNone Usage = Unit {0}
+IsDueOfNone TooLong = ⊥
+IsDueOfNone (Refused line) = ⊥
+IsDueOfNone ReadFault = ⊥
+IsDueOfNone (Spent line) = ⊥
+IsDueOfNone Memory = Unit {0}
+IsDueOfNone (Replayed report text) = ⊥
+IsDueOfNone (Generated text) = ⊥
+IsDueOfNone (Counted report line) = ⊥
+
+-- such words read nothing
 pub record IsUsage (before after : SourceValue) (e : Ending) : Type 0 where
-  pub ending : e ≡ Usage
+  pub due : IsDueOfNone e
   pub unread : after ≡ before
 
 -- the cause of each ending, of the words and of what the source was before and after
 abbrev pub IsDue : Option Subcommand → SourceValue → SourceValue → Ending → Type 0
 IsDue None before after e = IsUsage before after e
 IsDue (Some Replay) before after e = IsDueOfSource before after e
+IsDue (Some Run) before after e = IsUsage before after e
+IsDue (Some Check) before after e = IsUsage before after e
 IsDue (Some (Generate seed size)) before after e = IsGenerated seed size before after e
+IsDue (Some (Bulk seed size)) before after e = IsCounted seed size before after e
 
 -- ---- what a call did
 
@@ -236,11 +313,20 @@ pub record WroteScript (seed size : ℕ) (before after : StreamsValue) (r : Opti
   pub report : r ≡ None
   pub text : Wrote before after (generated_text seed size)
 
+-- the generated script was replayed, and how much that did was written
+pub record HasCounted (seed size : ℕ) (before after : StreamsValue) (r : Report) : Type 0 where
+  pub script : r.script ≡ generated seed size
+  pub replay : IsReplay r
+  pub text : Wrote before after (summary_line (summary_of r.lines))
+
 -- what was done where all went well
 abbrev pub IsDone : Option Subcommand → StreamsValue → StreamsValue → Option Report → Type 0
 IsDone None before after r = ⊥
 IsDone (Some Replay) before after r = IsSomeAnd r (IsReplayed before after)
+IsDone (Some Run) before after r = ⊥
+IsDone (Some Check) before after r = ⊥
 IsDone (Some (Generate seed size)) before after r = WroteScript seed size before after r
+IsDone (Some (Bulk seed size)) before after r = IsSomeAnd r (HasCounted seed size before after)
 
 -- the line was written that tells why the bytes that were read are not replayed
 pub record IsRefused (before after : StreamsValue) : Type 0 where
@@ -251,12 +337,27 @@ pub record IsRefused (before after : StreamsValue) : Type 0 where
   pub text : Wrote before after line
 
 -- the line was written that tells by how many events the budget is spent of the script that was read
-pub record IsBudgetSpent (before after : StreamsValue) : Type 0 where
+pub record IsBudgetOfReadSpent (before after : StreamsValue) : Type 0 where
   pub bytes : List ℕ
   pub read : IsRead script_limit before.source after.source bytes
   pub line : List ℕ
   pub told : TellsSpentOf bytes line
   pub text : Wrote before after line
+
+-- the line was written that tells by how many events the budget is spent of the generated script
+pub record IsBudgetOfGeneratedSpent (seed size : ℕ) (before after : StreamsValue) : Type 0 where
+  pub line : List ℕ
+  pub told : TellsSpent (generated seed size) line
+  pub text : Wrote before after line
+
+-- the budget of the script that was read, or generated, is spent, and the line was written that tells by how many events
+abbrev pub IsBudgetSpent : Option Subcommand → StreamsValue → StreamsValue → Type 0
+IsBudgetSpent None before after = ⊥
+IsBudgetSpent (Some Replay) before after = IsBudgetOfReadSpent before after
+IsBudgetSpent (Some Run) before after = ⊥
+IsBudgetSpent (Some Check) before after = ⊥
+IsBudgetSpent (Some (Generate seed size)) before after = ⊥
+IsBudgetSpent (Some (Bulk seed size)) before after = IsBudgetOfGeneratedSpent seed size before after
 
 -- a front was written of what an ending writes whose cause stood
 pub record WritesPart (command : Option Subcommand) (before after : StreamsValue) : Type 0 where

@@ -1,10 +1,9 @@
 //! Replays a script of a card and its users through the framework, and writes the report.
 #![tactic(auto)]
 
-mod replay;
+mod bulk;
 mod text;
 mod top;
-mod words;
 
 use apdu::{ReaderSource, WriterSink};
 use std::process::ExitCode;

@@ -9,14 +9,14 @@ use script::{Part, Why, write_script};
 use script_generator::generate;
 use std::alloc::Global;
 
-fn put(out: &mut String, text: &str) -> Result<(), Memory>
+pub fn put(out: &mut String, text: &str) -> Result<(), Memory>
     ensures { OnOk result (Puts out.old out.new text.now) }
 {
     out.push_str(text)?;
     Ok(())
 }
 
-fn put_numbered(alloc: Global, out: &mut String, word: &str, number: u64) -> Result<(), Memory>
+pub fn put_numbered(alloc: Global, out: &mut String, word: &str, number: u64) -> Result<(), Memory>
     ensures { OnOk result (Puts out.old out.new (word.now ++ decimal number)) }
 {
     put(out, word)?;

@@ -3,18 +3,18 @@ ghost use Rattle.std.specs.Prelude.{◌≡◌, ◌≢◌, ◌≤◌, true, false
 ghost use Rattle.apdu.specs.Stream.{Rose};
 ghost use Rattle.streams.specs.Streams.{HasMore, Wrote};
 ghost use Rattle.script_reader.specs.Rules.{keeps_rules};
-ghost use Rattle.uicc_replay.specs.Words.{subcommand_of, reads};
-ghost use Rattle.uicc_replay.specs.Top.{line_of, is_status, script_limit, IsDue, IsDueOfSource, IsDueOfBytes, IsDueOfScript, IsDueOfReport, IsDueOfBudget, IsDueOfLine, IsDueOfSizes, IsDone, IsRefused, IsBudgetSpent, WritesPart, Writes, Ends};
+ghost use Rattle.subcommands.specs.Subcommands.{HasSize, subcommand_of};
+ghost use Rattle.uicc_replay.specs.Top.{served, reads, line_of, is_status, script_limit, IsDue, IsDueOfSource, IsDueOfBytes, IsDueOfScript, IsDueOfReport, IsDueOfBudget, IsDueOfLine, IsDueOfSizes, IsDone, IsRefused, IsBudgetSpent, WritesPart, Writes, Ends};
 
-use crate::replay::{Replayed, replay};
+use crate::bulk::ending_of_bulk;
 use crate::text::{budget_text, generated_text, refused_text};
-use crate::words::{Subcommand, subcommand_of};
 use apdu::{Bytes, Memory, Sink, Source, Text};
-use hub::serves;
+use replay::{Replayed, replay};
 use report::{Report, write_report};
 use script::{Script, ScriptError, read_script};
 use std::alloc::Global;
 use streams::{Input, Streams, read_all};
+use subcommands::{Subcommand, read_words};
 
 /// How a call of the program ended: its status, and the report where there is one.
 #[derive(Drop)]
@@ -26,7 +26,7 @@ pub struct Outcome {
 /// How a call ends, if the sink takes what it writes.
 #[derive(Drop)]
 pub enum Ending {
-    /// The words are no command.
+    /// The words are no command that is served.
     Usage,
     /// The source gave more bytes than a script may have.
     TooLong,
@@ -42,6 +42,8 @@ pub enum Ending {
     Replayed { report: Report, text: Bytes },
     /// The script was generated; this is its text.
     Generated { text: Bytes },
+    /// The generated script was replayed; this is the report, and the line that tells how much that did.
+    Counted { report: Report, line: Text },
 }
 
 /// The most bytes that a script may have.
@@ -62,7 +64,7 @@ fn ending_of_line(line: Result<Text, Memory>) -> Ending
 }
 
 /// The ending of a run whose budget is spent by so many events.
-fn ending_of_budget(alloc: Global, events: u64) -> Ending
+pub fn ending_of_budget(alloc: Global, events: u64) -> Ending
     ensures { IsDueOfBudget events result }
 {
     match budget_text(alloc, events) {
@@ -82,14 +84,10 @@ fn ending_of_report(alloc: Global, report: Report) -> Ending
 }
 
 /// The ending of a script.
-#[tactic(auto, unfolding(crate::specs::Top::later_line))]
 fn ending_of_script(alloc: Global, script: Script) -> Ending
     requires { keeps_rules script ≡ true }
     ensures { IsDueOfScript script result }
 {
-    if !serves(&script) {
-        return ending_of_line(Text::from_str(alloc, "refused other 0 later\n"));
-    }
     match replay(alloc, script) {
         Ok(Replayed::Finished(report)) => ending_of_report(alloc, report),
         Ok(Replayed::Spent { events }) => ending_of_budget(alloc, events),
@@ -135,7 +133,26 @@ fn ending_of_source<S: Source, K: Sink>(alloc: Global, streams: &mut Streams<S, 
     }
 }
 
+/// How a call of this command ends.
+fn ending_of_command<S: Source, K: Sink>(
+    alloc: Global,
+    command: Option<Subcommand>,
+    streams: &mut Streams<S, K>,
+) -> Ending
+    requires { IfSome command HasSize }
+    ensures due { IsDue command streams.old.source streams.new.source result }
+    ensures sink { streams.new.sink ≡ streams.old.sink }
+{
+    match command {
+        Some(Subcommand::Replay) => ending_of_source(alloc, streams),
+        Some(Subcommand::Generate { seed, size }) => ending_of_sizes(alloc, seed, size),
+        Some(Subcommand::Bulk { seed, size }) => ending_of_bulk(alloc, seed, size),
+        Some(Subcommand::Run | Subcommand::Check) | None => Ending::Usage,
+    }
+}
+
 /// How the call ends.
+#[tactic(auto, using(crate::proofs::Unread::memory_is_due))]
 fn ending_of<S: Source, K: Sink>(
     alloc: Global,
     words: &[String],
@@ -144,10 +161,9 @@ fn ending_of<S: Source, K: Sink>(
     ensures due { IsDue (subcommand_of words.now) streams.old.source streams.new.source result }
     ensures sink { streams.new.sink ≡ streams.old.sink }
 {
-    match subcommand_of(words) {
-        Some(Subcommand::Replay) => ending_of_source(alloc, streams),
-        Some(Subcommand::Generate { seed, size }) => ending_of_sizes(alloc, seed, size),
-        None => Ending::Usage,
+    match read_words(alloc, words) {
+        Ok(command) => ending_of_command(alloc, command, streams),
+        Err(_) => Ending::Memory,
     }
 }
 
@@ -192,6 +208,9 @@ fn write_ending<S: Source, K: Sink>(streams: &mut Streams<S, K>, ending: Ending)
             write_piece(streams, 0, Some(report), text.as_slice())
         }
         Ending::Generated { text } => write_piece(streams, 0, None, text.as_slice()),
+        Ending::Counted { report, line } => {
+            write_piece(streams, 0, Some(report), line.as_str().as_bytes())
+        }
     }
 }
 
@@ -200,29 +219,33 @@ fn write_ending<S: Source, K: Sink>(streams: &mut Streams<S, K>, ending: Ending)
 /// the run, which is legal. Status 0 says so: the source's bytes are a script, the report that is handed
 /// out is of that script and of mode replay, it breaks no rule, none of its turns began once the budget
 /// was spent, and its text was written whole. Where the words are `gen`, a seed and a size, it reads
-/// nothing, and at status 0 the generated script was written whole. Each other status says what stood in
-/// the way, and its line was written: bytes that are no script, or a script of what is not served so far
-/// (3), a run that spent its budget before it was finished (6), more bytes than a script may have (8),
-/// words that are no command (2), a source (4) or a sink (5) that failed, or want of memory (9).
+/// nothing, and at status 0 the generated script was written whole. Where they are `bulk`, a seed and a
+/// size, it reads nothing, replays the generated script, and at status 0 hands out its report, which is
+/// legal, and wrote how many events, publications, answers and refusals that has. Each other status says
+/// what stood in the way, and its line was written: bytes that are no script (3), a run that spent its
+/// budget before it was finished (6), more bytes than a script may have (8), words that are no command that
+/// is served (2), a source (4) or a sink (5) that failed, or want of memory (9).
 pub fn top<S: Source, K: Sink>(
     alloc: Global,
     words: &[String],
     streams: &mut Streams<S, K>,
 ) -> Outcome
     // What each status says. 0: the report is the legal replay of all the source's bytes, and its
-    // text was written, or a generated script was. 6: a legal run of the bytes has the budget's
-    // events, and is not finished.
+    // text was written, or a generated script was, or the counts of its legal replay. 6: a legal run
+    // of the script has the budget's events, and is not finished.
     ensures done { result.status ≡ 0
         → IsDone (subcommand_of words.now) streams.old streams.new result.report }
-    ensures usage { result.status ≡ 2 → subcommand_of words.now ≡ None }
+    ensures usage { result.status ≡ 2 → served (subcommand_of words.now) ≡ None }
     ensures refused { result.status ≡ 3 → IsRefused streams.old streams.new }
     ensures read { result.status ≡ 4 → Rose streams.old.source.faults streams.new.source.faults }
     ensures write { result.status ≡ 5 → Rose streams.old.sink.faults streams.new.sink.faults }
-    ensures spent { result.status ≡ 6 → IsBudgetSpent streams.old streams.new }
+    ensures spent { result.status ≡ 6
+        → IsBudgetSpent (subcommand_of words.now) streams.old streams.new }
     ensures too_long { result.status ≡ 8
         → HasMore script_limit streams.old.source streams.new.source }
 
-    // The statuses of each command; words that are none end in 2 or 5. Only a replay reads.
+    // The statuses of each command; words that are none that is served end in 2, 5 or 9. Only a
+    // replay reads.
     ensures known { IsTrue (is_status (subcommand_of words.now) result.status) }
     ensures unread { reads (subcommand_of words.now) ≡ false
         → streams.new.source ≡ streams.old.source }

@@ -4,7 +4,7 @@ use crate::nodding::Nodding;
 use apdu::{Memory, Sw};
 use card_model::Trail;
 use channel_table::{OpenError, Table};
-use hub::{Hub, serves};
+use hub::Hub;
 use pin_session::{VerifyError, verify};
 use report::{Line, write_line};
 use script::read_script;
@@ -71,9 +71,6 @@ fn answers(alloc: Global, hub: &Hub<Nodding>) -> Result<String, Memory> {
 #[test]
 fn a_hub_sends_no_further_command(rt: HostRuntime) -> Result<(), Fail> {
     let script = read_script(rt.alloc(), SCRIPT.as_bytes()).map_err(|_| "a script")?;
-    if !serves(&script) {
-        return Err("a script that is served".into());
-    }
     let mut hub = Hub::new(rt.alloc(), Nodding::new(), script)?;
     for turn in 0..20 {
         let actor = turn % 2;

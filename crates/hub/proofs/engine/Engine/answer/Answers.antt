@@ -13,7 +13,7 @@ returns-clause-line g c =
     on_ok c.answer.result _ _ c.answer.ensures.ok (λ kept.
     one_quiet _ _ _ (line.Answered c.args.actor c.begun.result c.args.answer) c.requires.turn.tied
     (answer_follows c.args.self.now.script c.args.self.now.tracker c.args.actor c.requires.turn.turn c.begun.result c.args.answer c.begun.ensures c.requires.given)
-    c.push_within.ensures.lines c.push_within.ensures.spare kept (λ x. refl) c.requires.told refl refl)
+    c.push_within.ensures.lines c.push_within.ensures.spare kept refl refl (λ x. refl) c.requires.told refl refl)
 
 pub returns-clause-err : goal.returns-clause-err
 returns-clause-err g c =

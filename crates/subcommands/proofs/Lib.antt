@@ -1,0 +1,5 @@
+mod Built
+mod Spelt
+mod Numbers
+mod Found
+mod Asked

@@ -1,0 +1,3 @@
+pub mod Subcommands
+pub mod Spelling
+pub mod CommandLine

@@ -1,9 +1,0 @@
-use Rattle.std.proofs.Common.{◌≡◌}
-use Rattle.uicc_replay.specs.Rounds.{IsUnderWay, kept_in}
-use Rattle.uicc_replay.proofs.replay.Run.by_schedule.Given as goal
-
-abbrev pub invariant-loop-at : goal.invariant-loop-at
-invariant-loop-at l = record {
-  under_way : IsUnderWay l.fn.self.hub.script l.self;
-  marks : (kept_in l.fn.self.hub.script l.self).marks ≡ l.at;
-}
