@@ -1,5 +1,5 @@
 -- An actor of a script has answered at most 1000 operations, and dropped no more notices than there were publications.
-use Rattle.std.proofs.Common.{◌≡◌, ℕ, zero, suc, ◌≤◌, ◌==◌, ◌&&◌, true, List, [], ◌∷◌, length, Option, Some, None, refl, ap, ◌∙◌, arith}
+use Rattle.std.proofs.Common.{◌≡◌, ℕ, zero, suc, ◌≤◌, ◌==◌, ◌&&◌, true, List, [], ◌∷◌, length, Some, refl, arith}
 use Rattle.std.specs.Prelude.{nat_le, slice_get, unwrap_or}
 use Rattle.std.specs.List.{list_all}
 use Rattle.std.proofs.lemmas.Bool.{and_parts, leb-true}
@@ -11,7 +11,7 @@ use Rattle.script_reader.specs.Operations.{operation_count, is_actor}
 use Rattle.report.specs.declared.line.Line.{Line}
 use Rattle.rules.specs.declared.kept.Job.{Job}
 use Rattle.rules.specs.declared.kept.Kept.{Kept}
-use Rattle.rules.specs.Kept.{begun_of, first_job, operations_of}
+use Rattle.rules.specs.Kept.{operations_of}
 use Rattle.rules.specs.After.{kept_of}
 use Rattle.performed.specs.Followed.{are_followed}
 use Rattle.performed.specs.Laws.{IsPlainJob, ArePlainJobs, IsPlain}
