@@ -13,6 +13,7 @@ use Rattle.rules.specs.State.{State, state_of, state_after}
 use Rattle.rules.specs.Legal.{lowest_broken, line_tests, end_tests, changed_in, Judged, at_line, judged_after, judged_of, judged_end, first_broken}
 use Rattle.report_summary.specs.Summary.{seen}
 use Rattle.report_summary.proofs.Counted as counted
+use Rattle.report_summary.proofs.Counted.{seen_more}
 use Rattle.trace_check.specs.UpTo.{IsUnbroken}
 
 -- ---- the lines so far, the newest first

@@ -63,8 +63,7 @@ fn broken(
     read: &str,
     publication: &str,
 ) -> Result<Option<(u64, u8)>, Fail> {
-    let text =
-        format!(in alloc; "{FRONT}{begin}{SELECT}{read}{MISSING}{publication}{END}")?;
+    let text = format!(in alloc; "{FRONT}{begin}{SELECT}{read}{MISSING}{publication}{END}")?;
     let report = read_report(alloc, text.as_bytes())?;
     match check(alloc, &report) {
         Ok(()) => Ok(None),
