@@ -1,9 +1,11 @@
 // The notices of a watching actor.
 ghost use Rattle.std.specs.Prelude.{[], ◌≡◌, ◌+◌, ◌<◌, ◌≤◌, ◌^◌, length, slice_get, IfOk, true};
 ghost use Rattle.watchers.specs.Watches as spec;
+ghost use Rattle.watchers.specs.Watching.{mailbox_len};
 
 use crate::filter::{Filter, Notice};
 use apdu::{Memory, Sequence};
+use arrayvec::ArrayVec;
 use circular_buffer::HeapCircularBuffer;
 use std::alloc::Global;
 use std::marker::Model;
@@ -81,9 +83,24 @@ impl<P: Filter + Drop> Watch<P> {
 
     /// How many notices are kept.
     pub fn len(&self) -> usize
-        ensures { result ≡ length self.now.notices }
+        ensures value { result ≡ length self.now.notices }
+        ensures within { result ≤ mailbox_len }
     {
         self.notices.len()
+    }
+
+    /// The numbers of the notices that are kept, the oldest first.
+    pub fn numbers(&self) -> ArrayVec<u64, 64>
+        ensures { result ≡ (spec.mailbox_of self.now).numbers }
+    {
+        let mut numbers = ArrayVec::new();
+        for at in 0..self.notices.len() {
+            match self.notices.get(at) {
+                None => unreachable!(),
+                Some(notice) => numbers.push(notice.number),
+            }
+        }
+        numbers
     }
 
     /// The notice of this index; 0 is the oldest that is kept.
