@@ -1,5 +1,5 @@
 -- The answer that is due: to an operation that has begun, and of few bytes.
-use Rattle.std.proofs.Common.{◌≡◌, ◌≤◌, ◌<◌, ◌∙◌, ℕ, Bool, true, false, if◌then◌else◌, [], Option, Some, None, is_some, option_map, refl, sym, subst, true≢false, lit≤}
+use Rattle.std.proofs.Common.{◌≡◌, ◌≤◌, ◌<◌, ◌∙◌, ℕ, Bool, true, false, if◌then◌else◌, [], Option, Some, None, is_some, option_map, refl, sym, ap, subst, true≢false, lit≤}
 use Rattle.apdu.specs.Values.{CommandValue}
 use Rattle.apdu.specs.Words.{or_else}
 use Rattle.card_model.specs.declared.world.WorldEvent.{WorldEvent}
@@ -48,6 +48,16 @@ pub gives_begun : (s : Script) (k : Kept) (a : ℕ) (x : Answer) → k.turn.acto
 gives_begun s k a x t h =
     let given : answer_of_actor s k k.turn.actor ≡ Some x = says_of s k (give x) h in
     begun_there k a (begun_of a k.jobs) (operation_now s a k.jobs) x (subst (λ (o : Option ℕ). answer_of_actor s k o ≡ Some x) t given)
+
+-- the notices that are due are those of the actor's mailbox
+notices_there : (k : Kept) (a : ℕ) (b : Option Begun) (x : Answer) → answer_of_begun k a b (Some operation.Notices) ≡ Some x → notices_of (job_of a k.jobs).mailbox ≡ x
+notices_there k a (Some b) x h = cc
+notices_there k a None x h = absurd (cc)
+
+pub gives_notices : (s : Script) (k : Kept) (a : ℕ) (x : Answer) → k.turn.actor ≡ Some a → due s k ≡ give x → operation_now s a k.jobs ≡ Some operation.Notices → notices_of (job_of a k.jobs).mailbox ≡ x
+gives_notices s k a x t h op =
+    let given : answer_of_actor s k k.turn.actor ≡ Some x = says_of s k (give x) h in
+    notices_there k a (begun_of a k.jobs) x (ap (answer_of_begun k a (begun_of a k.jobs)) (sym op) ∙ subst (λ (o : Option ℕ). answer_of_actor s k o ≡ Some x) t given)
 
 -- ---- no event is tried
 

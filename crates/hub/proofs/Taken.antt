@@ -23,6 +23,7 @@ use Rattle.performed.specs.Placed.{are_placed, is_turn_allowed}
 use Rattle.performed.specs.Laws.{MarksMove, RunIsLegal, TurnsMove, has_no_mark}
 use Rattle.performed.specs.Progress.{Moves}
 use Rattle.hub.specs.Hub.{HubValue, IsAtRest, TakesTurn, kept_now}
+use Rattle.watched_tracker.specs.Asked.{masks_asked}
 use Rattle.hub.specs.Parts.{Parts}
 use Rattle.hub.specs.Settled.{AreServed, HasLine, HasTurned, IsPlanOf, IsSettled, IsWorldOf, KeepsAll}
 use Rattle.hub.specs.Short.{are_short}
@@ -142,10 +143,11 @@ first_plan_of : (s : Script) (q : Option Plan) → IfSome q (λ x. x ≡ record 
 first_plan_of s None h = tt
 first_plan_of s (Some x) h = record { faults = ap (λ (y : Plan). y.faults) h; calls = ap (λ (y : Plan). y.calls) h }
 
-pub first_settled : (p : Parts) → p.lines.lines ≡ [] → p.kept ≡ nothing_kept p.script → keeps_rules p.script ≡ true → has_utf8_names p.script ≡ true → IfSome p.world (λ x. x ≡ first_world p.script) → IfSome p.plan (λ x. x ≡ record { faults = p.script.faults; calls = 0 }) → IsSettled p
-first_settled p lines kept rules served world plan = record {
+pub first_settled : (p : Parts) → p.lines.lines ≡ [] → p.kept ≡ nothing_kept p.script → p.masks ≡ masks_asked p.script → keeps_rules p.script ≡ true → has_utf8_names p.script ≡ true → IfSome p.world (λ x. x ≡ first_world p.script) → IfSome p.plan (λ x. x ≡ record { faults = p.script.faults; calls = 0 }) → IsSettled p
+first_settled p lines kept masks rules served world plan = record {
   tied = record {
     kept = kept ∙ ap (kept_of p.script) (sym lines);
+    masks = masks;
     lines = subst (λ (x : List Line). AreServed p.script x p.world p.plan) (sym lines) (record {
       rules = rules;
       served = served;

@@ -18,6 +18,7 @@ use Rattle.rules.specs.State.{world_of}
 use Rattle.rules.specs.Performed.{ends_turn}
 use Rattle.planner.specs.Room.{AreLeft, handles_fit, is_decided, turn_fits}
 use Rattle.tracker.specs.Room.{HasRoom}
+use Rattle.watched_tracker.specs.Asked.{masks_asked}
 use Rattle.performed.specs.Names.{has_utf8_names}
 use Rattle.performed.specs.Followed.{are_followed}
 use Rattle.performed.specs.Told.{are_told}
@@ -48,9 +49,10 @@ pub record AreServed (s : Script) (lines : List Line) (w : Option World) (p : Op
   pub world : IfSome w (IsWorldOf s lines)
   pub plan : IfSome p (IsPlanOf s (kept_of s lines))
 
--- so are the lines of the parts, and the tracker keeps what they say; the edits that are under way are short
+-- so are the lines of the parts, the tracker keeps what they say, and the masks are the script's; the edits that are under way are short
 pub record IsTied (p : Parts) : Type 0 where
   pub kept : p.kept ≡ kept_of p.script p.lines.lines
+  pub masks : p.masks ≡ masks_asked p.script
   pub lines : AreServed p.script p.lines.lines p.world p.plan
   pub short : are_short (length p.lines.lines) p.kept.jobs ≡ true
 
@@ -72,6 +74,7 @@ pub record KeepsAll (old new : Parts) : Type 0 where
   pub script : new.script ≡ old.script
   pub lines : new.lines.lines ≡ old.lines.lines
   pub kept : new.kept ≡ old.kept
+  pub masks : new.masks ≡ old.masks
   pub world : new.world ≡ old.world
   pub plan : new.plan ≡ old.plan
   pub spare : old.lines.spare ≤ new.lines.spare
