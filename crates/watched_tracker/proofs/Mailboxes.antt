@@ -1,6 +1,6 @@
 -- What a line does to the mailboxes, and what the watches hold behind it.
-use Rattle.std.proofs.Common.{◌≡◌, ◌+◌, ◌^◌, ◌&&◌, ℕ, zero, suc, Bool, true, false, cond, nat_lt, if◌then◌else◌, List, [], ◌∷◌, ◌++◌, length, drop, map, Option, Some, None, refl, sym, ap, ◌∙◌, subst, true≢false}
-use Rattle.std.specs.Prelude.{slice_get, option_map}
+use Rattle.std.proofs.Common.{◌≡◌, ◌<◌, ◌+◌, ◌^◌, ◌&&◌, ℕ, zero, suc, Bool, true, false, cond, nat_lt, if◌then◌else◌, List, [], ◌∷◌, ◌++◌, length, drop, map, Option, Some, None, refl, sym, ap, ◌∙◌, subst, true≢false, arith, add-one}
+use Rattle.std.specs.Prelude.{slice_get, option_map, option_and_then, unwrap_or, replicate}
 use Rattle.std.specs.List.{list_all}
 use Rattle.std.proofs.lemmas.Bool.{and_parts}
 use Rattle.std.proofs.lemmas.Option.{slice_get-map}
@@ -17,19 +17,19 @@ use Rattle.watchers.specs.declared.filter.Notice.{Notice}
 use Rattle.watchers.specs.declared.mailbox.Mailbox.{Mailbox}
 use Rattle.watchers.specs.Watching.{offered, offered_to, wants, with_notice}
 use Rattle.watchers.specs.Watches.{WatchValue, mailbox_of, nothing_noticed, told, with_one_more}
-use Rattle.editor.specs.declared.attempt.Attempt.{Attempt}
 use Rattle.rules.specs.declared.kept.Facts.{Facts}
 use Rattle.rules.specs.declared.kept.Job.{Job}
 use Rattle.rules.specs.declared.kept.Kept.{Kept}
-use Rattle.rules.specs.Kept.{change_at, operation_at}
-use Rattle.rules.specs.Watching.{mailbox_after}
+use Rattle.rules.specs.Kept.{change_at, first_job, job_of, nothing_kept, operation_at}
+use Rattle.rules.specs.Watching.{mailbox_after, notices_of}
 use Rattle.rules.specs.After.{decision_at, facts_of, job_beside, jobs_beside, kept_after, mailbox_behind, own_job}
 use Rattle.tracker.specs.Lines.{is_answered, is_exchange, is_failed, is_published}
 use Rattle.tracker.specs.Room.{HasRoom, job_has_room, mailbox_has_room, begun_has_room}
 use Rattle.script_reader.specs.Rules.{keeps_rules}
-use Rattle.watched_tracker.specs.Asked.{if_watch, masks_asked, watching_behind}
+use Rattle.watched_tracker.specs.Asked.{if_watch, mask_asked, masks_asked, watcher_asked, watcher_with, watchers_asked, watching_behind}
+use Rattle.watched_tracker.specs.Watched.{WatchedValue}
 use Rattle.watched_tracker.proofs.ScriptWatches.{asked_there}
-use Rattle.watched_tracker.specs.Watchers.{WatcherValue, HoldMailboxes, actor_has_room, begun, begun_at, mailbox_of_actor, mailbox_of_watcher, mask_of_actor, offered_to_actor, offered_to_watcher}
+use Rattle.watched_tracker.specs.Watchers.{WatcherValue, AreHeld, HoldMailboxes, actor_has_room, begun, begun_at, mailbox_at, mailbox_of_actor, mailbox_of_watcher, mask_of_actor, offered_to_actor, offered_to_watcher}
 use Rattle.watched_tracker.proofs.Changes.{change_mapped, change_same, map_changed, map_same}
 
 abbrev mailbox : Job → Option Mailbox
@@ -78,8 +78,12 @@ offered_mask n (Some w) = by_watching w.watching
     by_watching true = ap (λ (m : ℕ). Some m) (told_keeps_mask n w.watch)
     by_watching false = refl
 
-pub masks_offered : (n : Notice) (ws : List (Option WatcherValue)) → map mask_of_actor (map (offered_to_actor n) ws) ≡ map mask_of_actor ws
+masks_offered : (n : Notice) (ws : List (Option WatcherValue)) → map mask_of_actor (map (offered_to_actor n) ws) ≡ map mask_of_actor ws
 masks_offered n ws = map_same (offered_to_actor n) mask_of_actor (offered_mask n) ws
+
+-- of what the watches become
+pub offered_masks : (n : Notice) (ws new : List (Option WatcherValue)) → new ≡ map (offered_to_actor n) ws → map mask_of_actor new ≡ map mask_of_actor ws
+offered_masks n ws new e = ap (map mask_of_actor) e ∙ masks_offered n ws
 
 -- ---- room
 
@@ -212,3 +216,72 @@ module _ (s : Script) (k : Kept) where
           (begins_at a i m ws h (ap (λ (l : List (Option ℕ)). slice_get l a) masks ∙ asked_there s rules a i m h) holds)
       by op h = absurd (let told : if_watch a op ≡ Some b = sym (ap (if_watch a) h) ∙ e in cc)
   watching_begins l b ws e rules masks holds = absurd (cc)
+
+-- ---- what is kept, as a tracker gives it
+
+pub held_on : (ws : List (Option WatcherValue)) (before now after : Kept) → AreHeld ws before.jobs → map mailbox after.jobs ≡ map mailbox before.jobs → now ≡ after → AreHeld ws now.jobs
+held_on ws before now after h same e more = h more ∙ sym same ∙ sym (ap (λ (k : Kept). map mailbox k.jobs) e)
+
+pub none_held : (jobs : List Job) → AreHeld [] jobs
+none_held jobs more = absurd (omega arith)
+
+pub held_have_room : (ws : List (Option WatcherValue)) (k : Kept) → AreHeld ws k.jobs → HasRoom k → list_all actor_has_room ws ≡ true
+held_have_room [] k h room = refl
+held_have_room (w ∷ ws) k h room = watchers_have_room (w ∷ ws) k (h (omega arith)) room
+
+-- with watches whose masks are the same
+pub held_with : (old new : List (Option WatcherValue)) (before now after : Kept) → map mask_of_actor new ≡ map mask_of_actor old → (HoldMailboxes old before.jobs → HoldMailboxes new after.jobs) → AreHeld old before.jobs → now ≡ after → AreHeld new now.jobs
+held_with old new before now after masks step h e more = step (h (subst (λ (l : List (Option ℕ)). 0 < length l) masks more)) ∙ sym (ap (λ (k : Kept). map mailbox k.jobs) e)
+
+-- ---- what a watch holds
+
+mailbox_there : (ws : List (Option WatcherValue)) (jobs : List Job) (a : ℕ) → HoldMailboxes ws jobs → mailbox_at a ws ≡ (job_of a jobs).mailbox
+mailbox_there ws jobs a h = there (slice_get ws a) (slice_get jobs a) (sym (slice_get-map mailbox_of_actor ws a) ∙ ap (λ (l : List (Option Mailbox)). slice_get l a) h ∙ slice_get-map mailbox jobs a)
+  where
+    there : (w : Option (Option WatcherValue)) (job : Option Job) → option_map mailbox_of_actor w ≡ option_map mailbox job → option_and_then mailbox_of_actor w ≡ (unwrap_or job first_job).mailbox
+    there None None e = refl
+    there (Some w) (Some job) e = cc
+    there None (Some job) e = absurd (cc)
+    there (Some w) None e = absurd (cc)
+
+pub notices_there : (ws : List (Option WatcherValue)) (jobs : List Job) (a : ℕ) → AreHeld ws jobs → 0 < length (map mask_of_actor ws) → notices_of (mailbox_at a ws) ≡ notices_of (job_of a jobs).mailbox
+notices_there ws jobs a h more = ap notices_of (mailbox_there ws jobs a (h more))
+
+-- ---- before the first line
+
+waiting_none : (mask : Option ℕ) → mailbox_of_actor (watcher_with mask) ≡ None
+waiting_none None = refl
+waiting_none (Some m) = refl
+
+none_yet : (actors : List (List Operation)) → map mailbox_of_actor (map watcher_asked actors) ≡ map mailbox (replicate (length actors) first_job)
+none_yet [] = refl
+none_yet (ops ∷ actors) = ap (λ (m : Option Mailbox). m ∷ map mailbox_of_actor (map watcher_asked actors)) (waiting_none (mask_asked ops)) ∙ ap (λ (l : List (Option Mailbox)). None ∷ l) (none_yet actors)
+
+pub first_held : (s : Script) (ws : List (Option WatcherValue)) (k : Kept) → ws ≡ watchers_asked s → k ≡ nothing_kept s → AreHeld ws k.jobs
+first_held s ws k e first more =
+    ap (map mailbox_of_actor) e ∙ rw add-one (ap (λ (l : List (Option Mailbox)). None ∷ l) (none_yet s.actors)) ∙ sym (ap (λ (x : Kept). map mailbox x.jobs) first)
+
+waiting_mask : (mask : Option ℕ) → mask_of_actor (watcher_with mask) ≡ mask
+waiting_mask None = refl
+waiting_mask (Some m) = refl
+
+masks_there : (actors : List (List Operation)) → map mask_of_actor (map watcher_asked actors) ≡ map mask_asked actors
+masks_there [] = refl
+masks_there (ops ∷ actors) = ap (λ (m : Option ℕ). m ∷ map mask_of_actor (map watcher_asked actors)) (waiting_mask (mask_asked ops)) ∙ ap (λ (l : List (Option ℕ)). mask_asked ops ∷ l) (masks_there actors)
+
+pub first_masks : (s : Script) (ws : List (Option WatcherValue)) → ws ≡ watchers_asked s → map mask_of_actor ws ≡ masks_asked s
+first_masks s ws e = ap (map mask_of_actor) e ∙ ap (λ (l : List (Option ℕ)). None ∷ l) (masks_there s.actors)
+
+-- ---- as a value
+
+abbrev watched_value : Kept → List (Option ℕ) → WatchedValue
+watched_value k masks = record { kept = k; masks = masks }
+
+pub same_value : (k now : Kept) (masks : List (Option ℕ)) (ms : List (Option ℕ)) → k ≡ now → masks ≡ ms → watched_value k masks ≡ watched_value now ms
+same_value k now masks ms e f = ap (λ (x : Kept). watched_value x masks) e ∙ ap (watched_value now) f
+
+-- ---- nobody
+
+pub not_watching : (o : Option ℕ) → ((a : ℕ) → o ≡ Some a → ⊥) → o ≡ None
+not_watching None h = refl
+not_watching (Some a) h = absurd (h a refl)

@@ -1,5 +1,5 @@
 -- The watches of the actors, and which of them watch.
-use Rattle.std.specs.Prelude.{◌≡◌, Bool, true, false, if◌then◌else◌, ℕ, List, map, Option, Some, None, option_map, option_and_then}
+use Rattle.std.specs.Prelude.{slice_get, ◌≡◌, ◌<◌, length, Bool, true, false, if◌then◌else◌, ℕ, List, map, Option, Some, None, option_map, option_and_then}
 use Rattle.watchers.specs.declared.filter.Notice.{Notice}
 use Rattle.watchers.specs.declared.mailbox.Mailbox.{Mailbox}
 use Rattle.watchers.specs.Watches.{WatchValue, mailbox_of, nothing_noticed, told}
@@ -35,6 +35,9 @@ mailbox_of_watcher w = if w.watching then Some (mailbox_of w.watch) else None
 abbrev pub mailbox_of_actor : Option WatcherValue → Option Mailbox
 mailbox_of_actor w = option_and_then mailbox_of_watcher w
 
+abbrev pub mailbox_at : ℕ → List (Option WatcherValue) → Option Mailbox
+mailbox_at actor watchers = option_and_then mailbox_of_actor (slice_get watchers actor)
+
 abbrev pub actor_has_room : Option WatcherValue → Bool
 actor_has_room w = mailbox_has_room (mailbox_of_actor w)
 
@@ -44,6 +47,10 @@ mask_of_actor w = option_map (λ (x : WatcherValue). x.watch.mask) w
 -- the watches hold what is kept of each actor's mailbox
 abbrev pub HoldMailboxes : List (Option WatcherValue) → List Job → Type 0
 HoldMailboxes watchers jobs = map mailbox_of_actor watchers ≡ map (λ (job : Job). job.mailbox) jobs
+
+-- so they do, unless all watches were let go for want of memory
+abbrev pub AreHeld : List (Option WatcherValue) → List Job → Type 0
+AreHeld watchers jobs = 0 < length (map mask_of_actor watchers) → HoldMailboxes watchers jobs
 
 -- this actor begins to watch
 abbrev pub begun_at : ℕ → List (Option WatcherValue) → List (Option WatcherValue)

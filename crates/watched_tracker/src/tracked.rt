@@ -29,7 +29,8 @@ use tracker::change_each;
 use watchers::{Filter, Notice, WatchList};
 
 /// What is kept of the lines of a report so far, as a `ContentTracker` keeps it, and the watches of the actors. Contracts see what is kept,
-/// and the masks. Each watch whose `watching` was answered holds what is kept of its actor's mailbox.
+/// and the masks. Each watch whose `watching` was answered holds what is
+/// kept of its actor's mailbox.
 #[derive(Drop)]
 pub struct WatchedTracker<P: Filter> {
     alloc: Global,
@@ -41,13 +42,13 @@ pub struct WatchedTracker<P: Filter> {
 impl<P: Filter> Model for WatchedTracker<P> {
     ghost use Rattle.std.specs.Prelude.{map};
     ghost use Rattle.watched_tracker.specs.Watched.{WatchedValue};
-    ghost use Rattle.watched_tracker.specs.Watchers.{HoldMailboxes, mask_of_actor};
+    ghost use Rattle.watched_tracker.specs.Watchers.{AreHeld, mask_of_actor};
 
     ghost Value = { WatchedValue };
 
     ghost view = { λ t. record { kept = t.tracker; masks = map mask_of_actor t.watchers } };
 
-    ghost invariant = { λ t. HoldMailboxes t.watchers t.tracker.jobs };
+    ghost invariant = { λ t. AreHeld t.watchers t.tracker.jobs };
 }
 
 /// The watch of an actor with these operations, from the front of the list.
@@ -111,6 +112,19 @@ fn begin_watching<P: Filter + Drop>(watchers: &mut Sequence<Option<Watcher<P>>>,
     }
 }
 
+/// The notices that the watch of this actor holds.
+fn notices_at<P: Filter + Drop>(watchers: &Sequence<Option<Watcher<P>>>, actor: u8) -> Answer
+    ensures { result ≡ notices_of (spec.mailbox_at actor watchers.now) }
+{
+    match watchers.get(actor as usize) {
+        Some(Some(watcher)) => watcher.notices(),
+        Some(None) | None => Answer::Notices {
+            dropped: 0,
+            numbers: ArrayVec::new(),
+        },
+    }
+}
+
 impl<P: Filter + Drop> WatchedTracker<P> {
     /// Before the first line of a script's report. There is one watch for each `watch` of the script, in its order.
     pub fn new(
@@ -147,15 +161,10 @@ impl<P: Filter + Drop> WatchedTracker<P> {
 
     /// The notices of an actor, as its watch holds them.
     pub fn notices(&self, actor: u8) -> Answer
+        requires { 0 < length self.now.masks }
         ensures { result ≡ notices_of (job_of actor self.now.kept.jobs).mailbox }
     {
-        match self.watchers.get(actor as usize) {
-            Some(Some(watcher)) => watcher.notices(),
-            _ => Answer::Notices {
-                dropped: 0,
-                numbers: ArrayVec::new(),
-            },
-        }
+        notices_at(&self.watchers, actor)
     }
 
     /// The text that is shown of a family, as its files are kept.
@@ -199,7 +208,7 @@ impl<P: Filter + Drop> WatchedTracker<P> {
         self.tracker.begin(script, actor, op, decision);
     }
 
-    /// A command was sent, and the card answered. Behind want of memory nothing is promised of what is kept.
+    /// A command was sent, and the card answered. Behind want of memory nothing is promised of what is kept, and all watches are let go.
     pub fn exchange(&mut self, script: &Script, line: &Line) -> Result<(), Memory>
         requires kind { kind.is_exchange line.now ≡ true }
         requires operation { line_fits script.now line.now self.old.kept.jobs ≡ true }
@@ -207,7 +216,13 @@ impl<P: Filter + Drop> WatchedTracker<P> {
         ensures { OnOk result (self.new
             ≡ keeping (kept_after script.now line.now self.old.kept) self.old) }
     {
-        self.tracker.exchange(script, line)
+        match self.tracker.exchange(script, line) {
+            Ok(()) => Ok(()),
+            Err(memory) => {
+                self.watchers = Sequence::new(self.alloc);
+                Err(memory)
+            }
+        }
     }
 
     /// A command was sent, and no answer came.
