@@ -179,7 +179,7 @@ impl<S: ScriptedSlot, P: Filter + Drop> Engine<S, P> {
         requires room { HasRoom self.old.tracker.kept }
         ensures { self.new ≡ record self.old {
           tracker = keeping (kept_after self.old.script (line.Turn actor) self.old.tracker.kept)
-            self.old.tracker;
+              self.old.tracker;
         } }
     {
         if actor == 0 {

@@ -1,5 +1,5 @@
 -- What a line does to the mailboxes, and what the watches hold behind it.
-use Rattle.std.proofs.Common.{◌≡◌, ◌<◌, ◌+◌, ◌^◌, ◌&&◌, ℕ, zero, suc, Bool, true, false, cond, nat_lt, if◌then◌else◌, List, [], ◌∷◌, ◌++◌, length, drop, map, Option, Some, None, refl, sym, ap, ◌∙◌, subst, true≢false, arith, add-one}
+use Rattle.std.proofs.Common.{◌≡◌, ◌<◌, ◌+◌, ◌^◌, ◌&&◌, ℕ, zero, suc, Bool, true, false, nat_lt, if◌then◌else◌, List, [], ◌∷◌, ◌++◌, length, drop, map, Option, Some, None, refl, sym, ap, ◌∙◌, subst, true≢false, arith, add-one}
 use Rattle.std.specs.Prelude.{slice_get, option_map, option_and_then, unwrap_or, replicate}
 use Rattle.std.specs.List.{list_all}
 use Rattle.std.proofs.lemmas.Bool.{and_parts}
@@ -23,7 +23,7 @@ use Rattle.rules.specs.declared.kept.Kept.{Kept}
 use Rattle.rules.specs.Kept.{change_at, first_job, job_of, nothing_kept, operation_at}
 use Rattle.rules.specs.Watching.{mailbox_after, notices_of}
 use Rattle.rules.specs.After.{decision_at, facts_of, job_beside, jobs_beside, kept_after, mailbox_behind, own_job}
-use Rattle.tracker.specs.Lines.{is_answered, is_exchange, is_failed, is_published}
+use Rattle.tracker.specs.Lines.{is_answered, is_exchange, is_failed}
 use Rattle.tracker.specs.Room.{HasRoom, job_has_room, mailbox_has_room, begun_has_room}
 use Rattle.script_reader.specs.Rules.{keeps_rules}
 use Rattle.watched_tracker.specs.Asked.{if_watch, mask_asked, masks_asked, watcher_asked, watcher_with, watchers_asked, watching_behind}

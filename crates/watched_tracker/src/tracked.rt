@@ -292,7 +292,7 @@ impl<P: Filter + Drop> WatchedTracker<P> {
         requires { HasRoom self.old.kept }
         ensures { self.new
             ≡ keeping (kept_after script.now (Line.EpochEnd number epoch event) self.old.kept)
-                self.old }
+            self.old }
     {
         let notice = Notice {
             number,

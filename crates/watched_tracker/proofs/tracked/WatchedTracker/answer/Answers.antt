@@ -1,4 +1,4 @@
-use Rattle.std.proofs.Common.{ap, sym, ◌∙◌, map, List, Option, ℕ}
+use Rattle.std.proofs.Common.{ap, sym, ◌∙◌, map}
 use Rattle.rules.specs.After.{kept_after}
 use Rattle.watched_tracker.specs.Watched.{WatchedValue, keeping}
 use Rattle.watched_tracker.specs.Watchers.{mailbox_of_actor, mask_of_actor}
