@@ -21,8 +21,9 @@ mod toolkit;
 mod update;
 mod verify;
 
+pub use access::rule_of;
 pub use card::on_card;
-pub use file::place_in;
+pub use file::{file_of, place_in};
 pub use laws::{refusal_keeps, reset_keeps, success_announces, tries_keep};
 pub use outcome::Outcome;
 pub use reset::reset_card;

@@ -15,7 +15,7 @@ value_of p whole = record { script = p.script; lines = p.lines.lines; world = p.
 
 pub due_so_far : (p : Parts) (whole : Bool) → IsSettled p → IsDueSoFar (value_of p whole)
 due_so_far p whole h = record {
-  served = h.tied.lines.served;
+  names = h.tied.lines.served;
   followed = h.tied.lines.followed;
   ends = subst (λ (k : Kept). ends_turn (due p.script k) ≡ true) h.tied.kept h.ends;
   told = IfSome_then p.world {P = IsWorldOf p.script p.lines.lines} {Q = λ world. are_told p.script p.lines.lines ≡ true} h.tied.lines.world (λ world w. w.told);

@@ -1,5 +1,5 @@
 -- The answer that is due: to an operation that has begun, and of few bytes.
-use Rattle.std.proofs.Common.{◌≡◌, ◌≤◌, ◌<◌, ◌∙◌, ℕ, Bool, true, false, if◌then◌else◌, [], Option, Some, None, is_some, option_map, refl, sym, subst, true≢false, lit≤}
+use Rattle.std.proofs.Common.{◌≡◌, ◌≤◌, ◌<◌, ◌∙◌, ℕ, Bool, true, false, if◌then◌else◌, [], Option, Some, None, is_some, option_map, refl, sym, ap, subst, true≢false, lit≤}
 use Rattle.apdu.specs.Values.{CommandValue}
 use Rattle.apdu.specs.Words.{or_else}
 use Rattle.card_model.specs.declared.world.WorldEvent.{WorldEvent}
@@ -18,7 +18,7 @@ use Rattle.rules.specs.declared.kept.Outcome.{Outcome}
 use Rattle.rules.specs.declared.kept.Outcome.TheVariants as outcome
 use Rattle.rules.specs.Kept.{begun_of, job_of, operation_now}
 use Rattle.rules.specs.Due.{done_publication, edit_answer, plan_refusal, planning_answer, answer_of, answer_of_outcome, is_lost, answer_of_actor, answer_of_begun, due, due_answer, due_by_command, due_by_end, due_by_event, due_by_reset, due_command, is_reset_due, loaded, on_handle, outcome_answer, raw_on_handle, seen_now, tried_event, with_card, with_ended}
-use Rattle.performed.specs.Served.{is_served, serves}
+use Rattle.performed.specs.Names.{has_utf8_name, has_utf8_names}
 use Rattle.performed.proofs.CalmSends.{ServedOp, served_now}
 use Rattle.performed.proofs.TurnsSays.{says_of}
 use Rattle.rules.specs.Channels.{handle_of, is_raw_ins}
@@ -48,6 +48,16 @@ pub gives_begun : (s : Script) (k : Kept) (a : ℕ) (x : Answer) → k.turn.acto
 gives_begun s k a x t h =
     let given : answer_of_actor s k k.turn.actor ≡ Some x = says_of s k (give x) h in
     begun_there k a (begun_of a k.jobs) (operation_now s a k.jobs) x (subst (λ (o : Option ℕ). answer_of_actor s k o ≡ Some x) t given)
+
+-- the notices that are due are those of the actor's mailbox
+notices_there : (k : Kept) (a : ℕ) (b : Option Begun) (x : Answer) → answer_of_begun k a b (Some operation.Notices) ≡ Some x → notices_of (job_of a k.jobs).mailbox ≡ x
+notices_there k a (Some b) x h = cc
+notices_there k a None x h = absurd (cc)
+
+pub gives_notices : (s : Script) (k : Kept) (a : ℕ) (x : Answer) → k.turn.actor ≡ Some a → due s k ≡ give x → operation_now s a k.jobs ≡ Some operation.Notices → notices_of (job_of a k.jobs).mailbox ≡ x
+gives_notices s k a x t h op =
+    let given : answer_of_actor s k k.turn.actor ≡ Some x = says_of s k (give x) h in
+    notices_there k a (begun_of a k.jobs) x (ap (answer_of_begun k a (begun_of a k.jobs)) (sym op) ∙ subst (λ (o : Option ℕ). answer_of_actor s k o ≡ Some x) t given)
 
 -- ---- no event is tried
 
@@ -198,7 +208,7 @@ module _ (came : Bool) where
 came : Kept → Bool
 came k = is_some k.turn.outcome
 
-operation_given : (n : ℕ) (k : Kept) (a : ℕ) (job : Job) (b : Begun) (op : Operation) → is_short_editing n b.editing ≡ true → is_served op ≡ true → Given (came k) (answer_of k a job b op)
+operation_given : (n : ℕ) (k : Kept) (a : ℕ) (job : Job) (b : Begun) (op : Operation) → is_short_editing n b.editing ≡ true → has_utf8_name op ≡ true → Given (came k) (answer_of k a job b op)
 unfolding Given came
 operation_given n k a job b (operation.Insert card) short v = moved_given (came k) k.turn.happened
 operation_given n k a job b operation.Out short v = moved_given (came k) k.turn.happened
@@ -222,19 +232,19 @@ begun_given n k a (Some b) (Some op) short v = operation_given n k a (job_of a k
 begun_given n k a (Some b) None short v = tt
 begun_given n k a None op short v = tt
 
-actor_given : (n : ℕ) (s : Script) (k : Kept) (o : Option ℕ) → are_short n k.jobs ≡ true → serves s ≡ true → Given (came k) (answer_of_actor s k o)
+actor_given : (n : ℕ) (s : Script) (k : Kept) (o : Option ℕ) → are_short n k.jobs ≡ true → has_utf8_names s ≡ true → Given (came k) (answer_of_actor s k o)
 unfolding Given
 actor_given n s k None short v = tt
 actor_given n s k (Some a) short v = begun_given n k a (begun_of a k.jobs) (operation_now s a k.jobs) (begun_short_at n k.jobs a short) (served_now s a k.jobs v)
 
-due_given : (n : ℕ) (s : Script) (k : Kept) (x : Answer) → are_short n k.jobs ≡ true → serves s ≡ true → due s k ≡ give x → IsGiven (came k) x
+due_given : (n : ℕ) (s : Script) (k : Kept) (x : Answer) → are_short n k.jobs ≡ true → has_utf8_names s ≡ true → due s k ≡ give x → IsGiven (came k) x
 unfolding Given
 due_given n s k x short v h = let given : due_answer s k ≡ Some x = says_of s k (give x) h in subst (Given (came k)) given (actor_given n s k k.turn.actor short v)
 
-pub gives_short : (n : ℕ) (s : Script) (k : Kept) (x : Answer) → are_short n k.jobs ≡ true → serves s ≡ true → due s k ≡ give x → most_of_answer x ≤ 608
+pub gives_short : (n : ℕ) (s : Script) (k : Kept) (x : Answer) → are_short n k.jobs ≡ true → has_utf8_names s ≡ true → due s k ≡ give x → most_of_answer x ≤ 608
 gives_short n s k x short v h = (due_given n s k x short v h).short
 
 -- behind an event of the turn, where it gives a channel or a session
-pub gives_behind : (n : ℕ) (s : Script) (k : Kept) (x : Answer) (events : ℕ) → are_short n k.jobs ≡ true → serves s ≡ true → due s k ≡ give x → IsSince events k → is_holding x ≡ true → events < k.history.events
+pub gives_behind : (n : ℕ) (s : Script) (k : Kept) (x : Answer) (events : ℕ) → are_short n k.jobs ≡ true → has_utf8_names s ≡ true → due s k ≡ give x → IsSince events k → is_holding x ≡ true → events < k.history.events
 unfolding came
 gives_behind n s k x events short v h t holds = t.came ((due_given n s k x short v h).holds holds)

@@ -20,7 +20,7 @@ use Rattle.rules.specs.Work.{family_read, first_item, framework_work, has_ended,
 use Rattle.families.specs.Families.{family_paths}
 use Rattle.refresher.specs.Refresh.{startup_command, fetch_command}
 use Rattle.rules.specs.Performed.{ends_turn}
-use Rattle.performed.specs.Served.{serves}
+use Rattle.performed.specs.Names.{has_utf8_names}
 use Rattle.performed.specs.Followed.{are_followed}
 use Rattle.performed.proofs.Plain.{keeps}
 use Rattle.performed.proofs.ProgressMarks.{idle_same, same_work, seen_of}
@@ -144,12 +144,12 @@ job_at [] i b h = absurd (cc)
 job_at (job ∷ jobs) zero b h = refl
 job_at (job ∷ jobs) (suc i) b h = job_at jobs i b h
 
-has_left : (s : Script) (lines : List Line) (i : ℕ) (b : Begun) → serves s ≡ true → are_followed s lines ≡ true → begun_of i (kept_of s lines).jobs ≡ Some b → has_operations_left s (kept_of s lines) i ≡ true
+has_left : (s : Script) (lines : List Line) (i : ℕ) (b : Begun) → has_utf8_names s ≡ true → are_followed s lines ≡ true → begun_of i (kept_of s lines).jobs ≡ Some b → has_operations_left s (kept_of s lines) i ≡ true
 has_left s lines i b v f h =
     let t = (keeps s lines f).jobs i (job_of i (kept_of s lines).jobs) (job_at (kept_of s lines).jobs i b h) in
     lt-ltb _ _ (t.left (ap is_some h))
 
-idle_unbegun : (s : Script) (lines : List Line) (a : ℕ) (o : Option Begun) → serves s ≡ true → are_followed s lines ≡ true → begun_of (suc a) (kept_of s lines).jobs ≡ o → (not (has_operations_left s (kept_of s lines) (suc a)) || is_some (if is_some o then None else next_waits_on s (kept_of s lines) (suc a))) ≡ true → o ≡ None
+idle_unbegun : (s : Script) (lines : List Line) (a : ℕ) (o : Option Begun) → has_utf8_names s ≡ true → are_followed s lines ≡ true → begun_of (suc a) (kept_of s lines).jobs ≡ o → (not (has_operations_left s (kept_of s lines) (suc a)) || is_some (if is_some o then None else next_waits_on s (kept_of s lines) (suc a))) ≡ true → o ≡ None
 idle_unbegun s lines a None v f e h = refl
 idle_unbegun s lines a (Some b) v f e h = absurd (never (has_operations_left s (kept_of s lines) (suc a)) (has_left s lines (suc a) b v f e) h)
   where
@@ -178,7 +178,7 @@ no_family k op (Some b) e = absurd (cc)
 
 -- ---- both
 
-module _ (s : Script) (lines : List Line) (v : serves s ≡ true) (f : are_followed s lines ≡ true) (pending : is_finished s (kept_of s lines) ≡ false) where
+module _ (s : Script) (lines : List Line) (v : has_utf8_names s ≡ true) (f : are_followed s lines ≡ true) (pending : is_finished s (kept_of s lines) ≡ false) where
   at_mark : (a : ℕ) → is_idle s (kept_of s lines) a ≡ true → (decision_at s (line.Turn a) (kept_of s lines)).work ≡ rests → family_at s a (kept_of s lines) ≡ None → due_answer s (kept_of s (line.Turn a ∷ lines)) ≡ None → ends_turn (due s (kept_of s (line.Turn a ∷ lines))) ≡ true
   at_mark a idle work family answer =
       let k : Kept = kept_of s (line.Turn a ∷ lines) in

@@ -21,7 +21,8 @@ use Rattle.hub.specs.Settled.{HasBroken, HasLeft, HasLine, HasOneMore, IsSettled
 use Rattle.hub.proofs.Begins.{is_begun, may_behind, new_attempt}
 use Rattle.hub.proofs.Follows.{mark_follows}
 use Rattle.hub.proofs.Left.{left_marked, left_step}
-use Rattle.hub.proofs.Ties.{IsPlayed, has_line, of_all, quiet}
+use Rattle.watched_tracker.specs.Watched.{keeping}
+use Rattle.hub.proofs.Ties.{watched, IsPlayed, has_line, of_all, quiet}
 use Rattle.hub.proofs.Turning.{line_filled, unless}
 
 -- ---- made ready
@@ -52,10 +53,10 @@ module _ (p q : Parts) (a : ℕ) where
       (quiet p.script p.kept (line.Turn a) p.world p.plan (λ x. refl) (of_all p.world (λ x. refl)) refl))
 
   pub mark_line : (d : Decision) → IsSettled p → IsDecision p.script (line.Turn a) p.kept d → is_finished p.script p.kept ≡ false → a ≤ actor_count p.script
-      → q.script ≡ p.script → q.kept ≡ kept_after p.script (line.Turn a) p.kept → q.world ≡ p.world → q.plan ≡ p.plan → q.lines.lines ≡ line.Turn a ∷ p.lines.lines → q.lines.spare + 1 ≡ p.lines.spare → HasLine (line.Turn a) p q
+      → q.script ≡ p.script → watched q ≡ keeping (kept_after p.script (line.Turn a) p.kept) (watched p) → q.world ≡ p.world → q.plan ≡ p.plan → q.lines.lines ≡ line.Turn a ∷ p.lines.lines → q.lines.spare + 1 ≡ p.lines.spare → HasLine (line.Turn a) p q
   mark_line d t h pending few script kept world plan lines spare =
-      subst (HasLine (line.Turn a) p) (ap (λ (s : Script). let x : Parts = record { script = s; lines = q.lines; kept = q.kept; world = q.world; plan = q.plan } in x) (sym script))
-      (has_line p q.lines q.kept q.world q.plan (line.Turn a) t.tied (mark_follows p.script p.kept a t.ends pending few) lines spare kept
+      subst (HasLine (line.Turn a) p) (ap (λ (s : Script). let x : Parts = record { script = s; lines = q.lines; kept = q.kept; masks = q.masks; world = q.world; plan = q.plan } in x) (sym script))
+      (has_line p q.lines (watched q) q.world q.plan (line.Turn a) t.tied (mark_follows p.script p.kept a t.ends pending few) lines spare kept
       (new_attempt p.script (line.Turn a) p.kept d h) refl (mark_played world plan))
 
 -- ---- behind the mark

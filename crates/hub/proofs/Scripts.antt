@@ -1,4 +1,4 @@
--- What the rules of a script, and that it is served, say of it.
+-- What the rules of a script, and that its names are UTF-8, say of it.
 use Rattle.std.proofs.Common.{◌≡◌, ◌≤◌, ◌<◌, ◌&&◌, ◌||◌, ◌⊎◌, inl, inr, eqb-true, ◌==◌, ℕ, zero, suc, Bool, true, false, nat_le, List, ◌∷◌, length, Option, Some, None, if◌then◌else◌, refl, sym, subst, arith, le-leb, leb-true, true≢false}
 use Rattle.std.specs.List.{list_all}
 use Rattle.std.specs.Prelude.{option_and_then}
@@ -25,7 +25,7 @@ use Rattle.tracker.specs.Room.{operation_fits}
 use Rattle.report.specs.declared.answer.Answer.{Answer}
 use Rattle.report.specs.declared.answer.Answer.TheVariants as answer
 use Rattle.hub.specs.Performing.{is_holding}
-use Rattle.performed.specs.Served.{serves}
+use Rattle.performed.specs.Names.{has_utf8_names}
 use Rattle.performed.specs.Followed.{is_slot_answer}
 use Rattle.performed.proofs.LegalScript.{IsPlain, family_known, is_family_or_none, plain_now}
 use Rattle.hub.specs.Ready.{family_by, family_next, family_ready, if_current}
@@ -50,7 +50,7 @@ few_actors s h =
     let few = leb-true (length s.actors) 8 q7.1 in
     omega arith
 
--- ---- the operations of a script that is served
+-- ---- the operations of a script
 
 aid_fits : (handle : ℕ) (aid : List ℕ) → has_form (operation.OpenChannel handle aid) ≡ true → nat_le (length aid) 255 ≡ true
 aid_fits handle aid h =
@@ -62,7 +62,7 @@ fits_op : (o : Option Operation) → IsPlain o → operation_fits o ≡ true
 fits_op (Some (operation.OpenChannel handle aid)) h = aid_fits handle aid (h.formed (operation.OpenChannel handle aid) refl)
 fits_op op h = refl
 
-pub fits_now : (s : Script) (a : ℕ) (jobs : List Job) → keeps_rules s ≡ true → serves s ≡ true → operation_fits (operation_now s a jobs) ≡ true
+pub fits_now : (s : Script) (a : ℕ) (jobs : List Job) → keeps_rules s ≡ true → has_utf8_names s ≡ true → operation_fits (operation_now s a jobs) ≡ true
 fits_now s a jobs rules h = fits_op (operation_now s a jobs) (plain_now s rules h a jobs)
 
 -- ---- answers that give a channel or a session
@@ -114,7 +114,7 @@ if_some k (Some g) f h = by (all_current k.files (family_paths g)) h
     by true e = e
     by false e = absurd (cc)
 
-module _ (s : Script) (lines : List Line) (rules : keeps_rules s ≡ true) (served : serves s ≡ true) where
+module _ (s : Script) (lines : List Line) (rules : keeps_rules s ≡ true) (served : has_utf8_names s ≡ true) where
   by_begun : (a : ℕ) (o : Option Begun) → is_family_or_none (family_by s (kept_of s lines) (suc a) o) ≡ true
   by_begun a (Some b) = family_known s (line.Turn (suc a) ∷ lines) rules served
   by_begun a None = family_known s (line.Begin (suc a) (job_of (suc a) (kept_of s lines).jobs).answered ∷ lines) rules served

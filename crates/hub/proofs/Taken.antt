@@ -16,13 +16,14 @@ use Rattle.rules.specs.Kept.{actor_count, nothing_kept}
 use Rattle.rules.specs.Legal.{legal}
 use Rattle.rules.specs.Performed.{ends_turn}
 use Rattle.rules.specs.Work.{is_finished, is_idle}
-use Rattle.performed.specs.Served.{serves}
+use Rattle.performed.specs.Names.{has_utf8_names}
 use Rattle.performed.specs.Followed.{are_followed}
 use Rattle.performed.specs.Told.{are_told}
 use Rattle.performed.specs.Placed.{are_placed, is_turn_allowed}
 use Rattle.performed.specs.Laws.{MarksMove, RunIsLegal, TurnsMove, has_no_mark}
 use Rattle.performed.specs.Progress.{Moves}
 use Rattle.hub.specs.Hub.{HubValue, IsAtRest, TakesTurn, kept_now}
+use Rattle.watched_tracker.specs.Asked.{masks_asked}
 use Rattle.hub.specs.Parts.{Parts}
 use Rattle.hub.specs.Settled.{AreServed, HasLine, HasTurned, IsPlanOf, IsSettled, IsWorldOf, KeepsAll}
 use Rattle.hub.specs.Short.{are_short}
@@ -44,7 +45,7 @@ settled_kept p q h t = record {
 rest_of : (p : Parts) (whole : Bool) → IsSettled p → IsAtRest (seen p whole)
 rest_of p whole t = record {
   rules = t.tied.lines.rules;
-  served = t.tied.lines.served;
+  names = t.tied.lines.served;
   followed = t.tied.lines.followed;
   ends = ap (λ (k : Kept). ends_turn (due p.script k)) (sym t.tied.kept) ∙ t.ends;
 }
@@ -58,7 +59,7 @@ told_of : (s : Script) (lines : List Line) (w : Option World) → IfSome w (IsWo
 told_of s lines None t h = absurd (cc)
 told_of s lines (Some x) t h = t.told
 
-filled : MarksMove → (s : Script) (earlier added : List Line) (a : ℕ) → keeps_rules s ≡ true → serves s ≡ true → are_followed s (added ++ line.Turn a ∷ earlier) ≡ true → are_told s earlier ≡ true → has_no_mark added ≡ true → is_idle s (kept_of s earlier) a ≡ false → ends_turn (due s (kept_of s (added ++ line.Turn a ∷ earlier))) ≡ true → (kept_of s (added ++ line.Turn a ∷ earlier)).turn.bare ≡ false
+filled : MarksMove → (s : Script) (earlier added : List Line) (a : ℕ) → keeps_rules s ≡ true → has_utf8_names s ≡ true → are_followed s (added ++ line.Turn a ∷ earlier) ≡ true → are_told s earlier ≡ true → has_no_mark added ≡ true → is_idle s (kept_of s earlier) a ≡ false → ends_turn (due s (kept_of s (added ++ line.Turn a ∷ earlier))) ≡ true → (kept_of s (added ++ line.Turn a ∷ earlier)).turn.bare ≡ false
 filled law s earlier [] a r v f told own awake e = absurd (true≢false (sym e ∙ law s earlier a r v f told awake))
 filled law s earlier (l ∷ added) a r v f told own awake e =
     let q = and_parts (not (is_mark l)) (has_no_mark added) own in
@@ -96,7 +97,7 @@ module _ (marks : MarksMove) (turns : TurnsMove) (p r n : Parts) (a : ℕ) (sett
       plan = subst (λ (o : Option Plan). StaysTold o n.plan) same.plan t.stays.plan;
     };
     turn = record { added = t.turn.added; lines = lines_are; own = t.turn.own };
-    rest = record { rules = t.settled.tied.lines.rules; served = t.settled.tied.lines.served; followed = t.settled.tied.lines.followed; ends = ends_now };
+    rest = record { rules = t.settled.tied.lines.rules; names = t.settled.tied.lines.served; followed = t.settled.tied.lines.followed; ends = ends_now };
     filled = λ told. ap (λ (k : Kept). k.turn.bare) kept_is ∙ filled marks p.script p.lines.lines t.turn.added a settled.tied.lines.rules settled.tied.lines.served follow (told_before told) t.turn.own awake ends_then;
     moves = λ told. subst (λ (k : Kept). Moves p.script (kept_of p.script p.lines.lines) k) (sym kept_is) (turns p.script p.lines.lines t.turn.added a settled.tied.lines.rules settled.tied.lines.served follow (told_before told) t.turn.own awake ends_then);
     whole = refl;
@@ -142,10 +143,11 @@ first_plan_of : (s : Script) (q : Option Plan) → IfSome q (λ x. x ≡ record 
 first_plan_of s None h = tt
 first_plan_of s (Some x) h = record { faults = ap (λ (y : Plan). y.faults) h; calls = ap (λ (y : Plan). y.calls) h }
 
-pub first_settled : (p : Parts) → p.lines.lines ≡ [] → p.kept ≡ nothing_kept p.script → keeps_rules p.script ≡ true → serves p.script ≡ true → IfSome p.world (λ x. x ≡ first_world p.script) → IfSome p.plan (λ x. x ≡ record { faults = p.script.faults; calls = 0 }) → IsSettled p
-first_settled p lines kept rules served world plan = record {
+pub first_settled : (p : Parts) → p.lines.lines ≡ [] → p.kept ≡ nothing_kept p.script → p.masks ≡ masks_asked p.script → keeps_rules p.script ≡ true → has_utf8_names p.script ≡ true → IfSome p.world (λ x. x ≡ first_world p.script) → IfSome p.plan (λ x. x ≡ record { faults = p.script.faults; calls = 0 }) → IsSettled p
+first_settled p lines kept masks rules served world plan = record {
   tied = record {
     kept = kept ∙ ap (kept_of p.script) (sym lines);
+    masks = masks;
     lines = subst (λ (x : List Line). AreServed p.script x p.world p.plan) (sym lines) (record {
       rules = rules;
       served = served;

@@ -13,6 +13,8 @@ use Rattle.rules.specs.Due.{due}
 use Rattle.rules.specs.declared.due.Due.{Due}
 use Rattle.rules.specs.After.{decision_at, is_mark, kept_after, kept_of}
 use Rattle.planner.specs.Room.{is_new_attempt}
+use Rattle.watched_tracker.specs.Asked.{masks_asked}
+use Rattle.watched_tracker.specs.Watched.{WatchedValue, keeping}
 use Rattle.hub.specs.Short.{are_short}
 use Rattle.hub.proofs.Edits.{has_row, short_after}
 use Rattle.rules.specs.State.{world_after}
@@ -56,13 +58,18 @@ served_on s lines l w v p q a f g = record {
   plan = plan_on s lines l p q a.plan g.tells_plan g.counts;
 }
 
-pub has_line : (p : Parts) (room : LinesRoom) (k : Kept) (v : Option World) (q : Option Plan) (l : Line) → IsTied p → is_followed p.script p.kept l ≡ true → room.lines ≡ l ∷ p.lines.lines → room.spare + 1 ≡ p.lines.spare → k ≡ kept_after p.script l p.kept → is_new_attempt (decision_at p.script l p.kept).attempt ≡ true → has_row l ≡ true → IsPlayed p.script p.kept l p.world v p.plan q → HasLine l p (record { script = p.script; lines = room; kept = k; world = v; plan = q })
-has_line p room k v q l t f lines spare kept new row played = record {
+-- what is kept, with the masks
+abbrev pub watched : Parts → WatchedValue
+watched p = record { kept = p.kept; masks = p.masks }
+
+pub has_line : (p : Parts) (room : LinesRoom) (u : WatchedValue) (v : Option World) (q : Option Plan) (l : Line) → IsTied p → is_followed p.script p.kept l ≡ true → room.lines ≡ l ∷ p.lines.lines → room.spare + 1 ≡ p.lines.spare → u ≡ keeping (kept_after p.script l p.kept) (watched p) → is_new_attempt (decision_at p.script l p.kept).attempt ≡ true → has_row l ≡ true → IsPlayed p.script p.kept l p.world v p.plan q → HasLine l p (record { script = p.script; lines = room; kept = u.kept; masks = u.masks; world = v; plan = q })
+has_line p room u v q l t f lines spare same new row played = let kept = ap (λ (x : WatchedValue). x.kept) same in record {
   stays = record { script = refl; world = played.tells; plan = played.tells_plan };
   tied = record {
     kept = kept ∙ ap (kept_after p.script l) t.kept ∙ sym (ap (kept_of p.script) lines);
+    masks = ap (λ (x : WatchedValue). x.masks) same ∙ t.masks;
     lines = subst (λ (x : List Line). AreServed p.script x v q) (sym lines) (served_on p.script p.lines.lines l p.world v p.plan q t.lines (subst (λ (x : Kept). is_followed p.script x l ≡ true) t.kept f) (subst (λ (x : Kept). IsPlayed p.script x l p.world v p.plan q) t.kept played));
-    short = ap (λ (x : List Line). are_short (length x) k.jobs) lines ∙ ap (λ (x : Kept). are_short (length (l ∷ p.lines.lines)) x.jobs) kept ∙ longer (short_after (length p.lines.lines) p.script l p.kept new row t.short);
+    short = ap (λ (x : List Line). are_short (length x) u.kept.jobs) lines ∙ ap (λ (x : Kept). are_short (length (l ∷ p.lines.lines)) x.jobs) kept ∙ longer (short_after (length p.lines.lines) p.script l p.kept new row t.short);
   };
   lines = lines;
   spare = omega arith;
@@ -93,18 +100,18 @@ of_all None h = tt
 of_all (Some x) h = h x
 
 -- the same of a line that the slot has no part in
-pub one_quiet : (p : Parts) (room : LinesRoom) (k : Kept) (l : Line) → IsTied p → is_followed p.script p.kept l ≡ true → room.lines ≡ l ∷ p.lines.lines → room.spare + 1 ≡ p.lines.spare → k ≡ kept_after p.script l p.kept → is_new_attempt (decision_at p.script l p.kept).attempt ≡ true → has_row l ≡ true → ((x : World) → world_after l x ≡ x) → IfSome p.world (λ x. is_told p.script x p.kept l ≡ true) → is_call l ≡ false → is_mark l ≡ false → HasOneMore p (record { script = p.script; lines = room; kept = k; world = p.world; plan = p.plan })
-one_quiet p room k l t f lines spare kept new row same told call own =
-    one_more p (record { script = p.script; lines = room; kept = k; world = p.world; plan = p.plan }) l
-    (has_line p room k p.world p.plan l t f lines spare kept new row (quiet p.script p.kept l p.world p.plan same told call)) own
+pub one_quiet : (p : Parts) (room : LinesRoom) (u : WatchedValue) (l : Line) → IsTied p → is_followed p.script p.kept l ≡ true → room.lines ≡ l ∷ p.lines.lines → room.spare + 1 ≡ p.lines.spare → u ≡ keeping (kept_after p.script l p.kept) (watched p) → is_new_attempt (decision_at p.script l p.kept).attempt ≡ true → has_row l ≡ true → ((x : World) → world_after l x ≡ x) → IfSome p.world (λ x. is_told p.script x p.kept l ≡ true) → is_call l ≡ false → is_mark l ≡ false → HasOneMore p (record { script = p.script; lines = room; kept = u.kept; masks = u.masks; world = p.world; plan = p.plan })
+one_quiet p room u l t f lines spare kept new row same told call own =
+    one_more p (record { script = p.script; lines = room; kept = u.kept; masks = u.masks; world = p.world; plan = p.plan }) l
+    (has_line p room u p.world p.plan l t f lines spare kept new row (quiet p.script p.kept l p.world p.plan same told call)) own
 
 -- ---- where memory ran out behind an event
 
 event_counts : (s : Script) (l : Line) (lines : List Line) → is_event l ≡ true → (kept_of s (l ∷ lines)).history.events ≡ (kept_of s lines).history.events + 1
 event_counts s l lines e = ap (λ (b : Bool). counted b (kept_of s lines).history.events) e
 
-pub broke_behind : (p : Parts) (room : LinesRoom) (k : Kept) (v : Option World) (q : Option Plan) (l : Line) → IsTied p → room.lines ≡ l ∷ p.lines.lines → is_event l ≡ true → is_mark l ≡ false → StaysTold p.world v → StaysTold p.plan q → BreaksBehind p.kept.history.events p (record { script = p.script; lines = room; kept = k; world = v; plan = q })
-broke_behind p room k v q l t lines e own tells tells_plan =
+pub broke_behind : (p : Parts) (room : LinesRoom) (k : Kept) (ms : List (Option ℕ)) (v : Option World) (q : Option Plan) (l : Line) → IsTied p → room.lines ≡ l ∷ p.lines.lines → is_event l ≡ true → is_mark l ≡ false → StaysTold p.world v → StaysTold p.plan q → BreaksBehind p.kept.history.events p (record { script = p.script; lines = room; kept = k; masks = ms; world = v; plan = q })
+broke_behind p room k ms v q l t lines e own tells tells_plan =
     let same : p.kept.history.events ≡ (kept_of p.script p.lines.lines).history.events = ap (λ (x : Kept). x.history.events) t.kept in
     let more = event_counts p.script l p.lines.lines e in
     record {
@@ -116,8 +123,8 @@ broke_behind p room k v q l t lines e own tells tells_plan =
     }
 
 -- the same of a line behind an event of the turn
-pub broke_after : (p : Parts) (room : LinesRoom) (k : Kept) (v : Option World) (q : Option Plan) (l : Line) (events : ℕ) → IsTied p → room.lines ≡ l ∷ p.lines.lines → is_mark l ≡ false → StaysTold p.world v → StaysTold p.plan q → events < p.kept.history.events → BreaksBehind events p (record { script = p.script; lines = room; kept = k; world = v; plan = q })
-broke_after p room k v q l events t lines own tells tells_plan moved =
+pub broke_after : (p : Parts) (room : LinesRoom) (k : Kept) (ms : List (Option ℕ)) (v : Option World) (q : Option Plan) (l : Line) (events : ℕ) → IsTied p → room.lines ≡ l ∷ p.lines.lines → is_mark l ≡ false → StaysTold p.world v → StaysTold p.plan q → events < p.kept.history.events → BreaksBehind events p (record { script = p.script; lines = room; kept = k; masks = ms; world = v; plan = q })
+broke_after p room k ms v q l events t lines own tells tells_plan moved =
     let same : p.kept.history.events ≡ (kept_of p.script p.lines.lines).history.events = ap (λ (x : Kept). x.history.events) t.kept in
     let more = (goes_on p.script l (kept_of p.script p.lines.lines)).events in
     record {
@@ -146,6 +153,7 @@ served_kept p q h t =
 pub tied_kept : (p q : Parts) → KeepsAll p q → IsTied p → IsTied q
 tied_kept p q h t = record {
   kept = h.kept ∙ t.kept ∙ ap (λ (s : Script). kept_of s p.lines.lines) (sym h.script) ∙ ap (kept_of q.script) (sym h.lines);
+  masks = h.masks ∙ t.masks ∙ ap masks_asked (sym h.script);
   lines = served_kept p q h t.lines;
   short = ap (λ (k : Kept). are_short (length q.lines.lines) k.jobs) h.kept ∙ ap (λ (x : List Line). are_short (length x) p.kept.jobs) h.lines ∙ t.short;
 }

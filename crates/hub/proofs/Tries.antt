@@ -65,7 +65,7 @@ use Rattle.epoch_cache.specs.Cache.{view_of_files}
 use Rattle.rules.specs.Editing.{first_lack}
 use Rattle.rules.specs.declared.kept.Decision.{Decision}
 use Rattle.rules.specs.Work.{attempts, begins_plan, decided_work, decides, edit_work, undecided_work, first_item, is_starting, living_handle, read_stale, reads_first, sends_close, sends_raw, status_command, work_of_operation}
-use Rattle.performed.specs.Served.{is_served, serves}
+use Rattle.performed.specs.Names.{has_utf8_name, has_utf8_names}
 use Rattle.performed.specs.Followed.{are_followed, is_followed}
 use Rattle.performed.specs.Measure.{calls_left, is_begun}
 use Rattle.performed.specs.Told.{is_refusal_told}
@@ -209,7 +209,7 @@ unfolding work_fits
 edit_fits s k a b f e true = edit_by s k a f e b.editing b.editing.decided
 edit_fits s k a b f e false = tt
 
-operation_fits : (s : Script) (k : Kept) (a : ℕ) (b : Begun) (op : Operation) → is_served op ≡ true → has_target (length s.cards) (length s.changes) op ≡ true → work_fits s (work_of_operation k a b op).work
+operation_fits : (s : Script) (k : Kept) (a : ℕ) (b : Begun) (op : Operation) → has_utf8_name op ≡ true → has_target (length s.cards) (length s.changes) op ≡ true → work_fits s (work_of_operation k a b op).work
 unfolding work_fits fits
 operation_fits s k a b (operation.Insert card) v h = h
 operation_fits s k a b operation.Out v h = refl
@@ -305,7 +305,7 @@ seen_some (Some b) p e h = refl
 over_none : {X : Type 0} (work : Work) (e : WorldEvent) → event_by_stage work over ≡ Some e → X
 over_none work e h = absurd (cc)
 
-line_tries : (s : Script) (earlier : List Line) (l : Line) → keeps_rules s ≡ true → serves s ≡ true → is_followed s (kept_of s earlier) l ≡ true → Tries s (kept_of s earlier) → Tries s (kept_of s (l ∷ earlier))
+line_tries : (s : Script) (earlier : List Line) (l : Line) → keeps_rules s ≡ true → has_utf8_names s ≡ true → is_followed s (kept_of s earlier) l ≡ true → Tries s (kept_of s earlier) → Tries s (kept_of s (l ∷ earlier))
 line_tries s earlier (line.Turn zero) r v f t =
     let k : Kept = kept_of s earlier in
     let none = framework_none k k.history.owes_reset k.history.living in
@@ -356,7 +356,7 @@ line_tries s earlier (line.Refused g n) r v f t =
       begun = λ e h. same_turn k.jobs (kept_after s (line.Refused g n) k).jobs (begun_beside_line s (line.Refused g n) k) k.turn.actor ∙ t.begun e h;
     }
 
-tries : (s : Script) (lines : List Line) → keeps_rules s ≡ true → serves s ≡ true → are_followed s lines ≡ true → Tries s (kept_of s lines)
+tries : (s : Script) (lines : List Line) → keeps_rules s ≡ true → has_utf8_names s ≡ true → are_followed s lines ≡ true → Tries s (kept_of s lines)
 tries s [] r v f = record { event = λ e h. absurd (cc); begun = λ e h. absurd (cc) }
 tries s (l ∷ earlier) r v f =
     let p = and_parts (are_followed s earlier) (is_followed s (kept_of s earlier) l) f in
@@ -371,7 +371,7 @@ tries_begun p a e t o h =
     ap (λ (x : Kept). is_some (begun_of a x.jobs)) t.kept
     ∙ ap (λ (x : Option ℕ). is_begun x k.jobs) (sym (ap (λ (x : Kept). x.turn.actor) (sym t.kept) ∙ o)) ∙ begun
 
-tries_fits : (s : Script) (lines : List Line) (e : WorldEvent) → keeps_rules s ≡ true → serves s ≡ true → are_followed s lines ≡ true → due s (kept_of s lines) ≡ try_event e → fits s e ≡ true
+tries_fits : (s : Script) (lines : List Line) (e : WorldEvent) → keeps_rules s ≡ true → has_utf8_names s ≡ true → are_followed s lines ≡ true → due s (kept_of s lines) ≡ try_event e → fits s e ≡ true
 tries_fits s lines e r v f h = (tries s lines r v f).event e (says_of s (kept_of s lines) (try_event e) h)
 
 -- ---- there are as many cards and changes as at first
@@ -527,7 +527,7 @@ refused_as : (o : Option WorldRefusal) (r : WorldRefusal) → IsResultOf o (Err 
 refused_as None r h = absurd (cc)
 refused_as (Some x) r h = cc
 
-event_told : (s : Script) (lines : List Line) (e : WorldEvent) → keeps_rules s ≡ true → serves s ≡ true → are_followed s lines ≡ true → due s (kept_of s lines) ≡ try_event e → IsTold (refusal_of (world_of s lines) e)
+event_told : (s : Script) (lines : List Line) (e : WorldEvent) → keeps_rules s ≡ true → has_utf8_names s ≡ true → are_followed s lines ≡ true → due s (kept_of s lines) ≡ try_event e → IsTold (refusal_of (world_of s lines) e)
 unfolding fits
 event_told s lines (world_event.Insert j) rules v f h =
     let x : World = world_of s lines in
@@ -539,10 +539,10 @@ event_told s lines (world_event.Arm i) rules v f h =
     let valid : nat_lt i (length x.changes) ≡ true = ap (nat_lt i) (same_changes s lines) ∙ tries_fits s lines (world_event.Arm i) rules v f h in
     subst (λ (b : Bool). IsTold (arm_refusal b (armed_count (card_inside x)) i)) (sym valid) (arm_told (armed_count (card_inside x)) i)
 
-told_now : (s : Script) (lines : List Line) (e : WorldEvent) (r : WorldRefusal) (x : World) → keeps_rules s ≡ true → serves s ≡ true → are_followed s lines ≡ true → x ≡ world_of s lines → due s (kept_of s lines) ≡ try_event e → refusal_of x e ≡ Some r → is_some (answer_of_refusal r) ≡ true
+told_now : (s : Script) (lines : List Line) (e : WorldEvent) (r : WorldRefusal) (x : World) → keeps_rules s ≡ true → has_utf8_names s ≡ true → are_followed s lines ≡ true → x ≡ world_of s lines → due s (kept_of s lines) ≡ try_event e → refusal_of x e ≡ Some r → is_some (answer_of_refusal r) ≡ true
 told_now s lines e r x rules v f same h g = event_told s lines e rules v f h r (ap (λ (y : World). refusal_of y e) (sym same) ∙ g)
 
-refusal_by : (s : Script) (lines : List Line) (e : WorldEvent) (r : WorldRefusal) (given : Answer) (w : Option World) → keeps_rules s ≡ true → serves s ≡ true → are_followed s lines ≡ true → due s (kept_of s lines) ≡ try_event e → IfSome w (IsWorldOf s lines) → IsRefused w e (Err r) → IfSome (answer_of_refusal r) (λ y. given ≡ y) → IfSome w (λ x. is_refusal_told x given (Some e) ≡ true)
+refusal_by : (s : Script) (lines : List Line) (e : WorldEvent) (r : WorldRefusal) (given : Answer) (w : Option World) → keeps_rules s ≡ true → has_utf8_names s ≡ true → are_followed s lines ≡ true → due s (kept_of s lines) ≡ try_event e → IfSome w (IsWorldOf s lines) → IsRefused w e (Err r) → IfSome (answer_of_refusal r) (λ y. given ≡ y) → IfSome w (λ x. is_refusal_told x given (Some e) ≡ true)
 refusal_by s lines e r given None rules v f h t g y = tt
 refusal_by s lines e r given (Some x) rules v f h t g y =
     let refused : refusal_of x e ≡ Some r = refused_as (refusal_of x e) r g in

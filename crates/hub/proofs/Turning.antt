@@ -58,11 +58,11 @@ mailbox_room : (n published : ℕ) (o : Option Mailbox) → n + 1 < 2 ^ 64 → p
 mailbox_room n published None few most h = refl
 mailbox_room n published (Some m) few most h = lt-ltb (m.dropped + 1) (2 ^ 64) (omega (arith, most, few, h))
 
-module _ (n events published : ℕ) (few : n + 1 < 2 ^ 64) (most : published ≤ n) where
-  job_room : (job : Job) → IsPlainJob events published job → is_short_job n job ≡ true → job_has_room job ≡ true
+module _ (n published : ℕ) (few : n + 1 < 2 ^ 64) (most : published ≤ n) where
+  job_room : (job : Job) → IsPlainJob published job → is_short_job n job ≡ true → job_has_room job ≡ true
   job_room job h short = rw (answered_fits job.answered h.answered, mailbox_room n published job.mailbox few most h.mailbox, begun_room n job.begun few short) refl
 
-  jobs_room : (jobs : List Job) → ArePlainJobs events published jobs → are_short n jobs ≡ true → list_all job_has_room jobs ≡ true
+  jobs_room : (jobs : List Job) → ArePlainJobs published jobs → are_short n jobs ≡ true → list_all job_has_room jobs ≡ true
   jobs_room [] h short = refl
   jobs_room (job ∷ jobs) h short =
       let parts = and_parts (is_short_job n job) (are_short n jobs) short in
@@ -107,7 +107,7 @@ handles_by (x ∷ hs) h =
 
 module _ (law : StaysPlain) (p : Parts) (t : IsTied p) where
   plain : IsPlain p.kept
-  plain = subst IsPlain (sym t.kept) (law p.script p.lines.lines t.lines.rules t.lines.served t.lines.followed)
+  plain = subst IsPlain (sym t.kept) (law p.script p.lines.lines t.lines.rules t.lines.followed)
 
   counted : AreCounted (length p.lines.lines) p.kept
   counted = subst (AreCounted (length p.lines.lines)) (sym t.kept) (counts p.script p.lines.lines)
@@ -115,7 +115,7 @@ module _ (law : StaysPlain) (p : Parts) (t : IsTied p) where
   pub has_room : length p.lines.lines + 1 < 2 ^ 64 → HasRoom p.kept
   has_room h = record {
     counters = counts_on (length p.lines.lines) p.kept counted h;
-    jobs = jobs_room (length p.lines.lines) p.kept.history.events p.kept.publications h counted.publications p.kept.jobs plain.jobs t.short;
+    jobs = jobs_room (length p.lines.lines) p.kept.publications h counted.publications p.kept.jobs plain.jobs t.short;
   }
 
   pub handles_small : handles_fit p.kept.handles ≡ true

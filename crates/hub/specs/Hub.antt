@@ -11,7 +11,7 @@ use Rattle.rules.specs.After.{kept_of}
 use Rattle.rules.specs.Due.{due}
 use Rattle.rules.specs.Work.{has_ended, waits_on}
 use Rattle.rules.specs.Performed.{ends_turn}
-use Rattle.performed.specs.Served.{serves}
+use Rattle.performed.specs.Names.{has_utf8_names}
 use Rattle.performed.specs.Followed.{are_followed}
 use Rattle.performed.specs.Laws.{has_no_mark}
 use Rattle.performed.specs.Progress.{Moves}
@@ -30,10 +30,10 @@ pub record HubValue : Type 0 where
 abbrev pub kept_now : HubValue → Kept
 kept_now h = kept_of h.script h.lines
 
--- the lines of a script that is served: each was due, and nothing more is
+-- each line was due, and nothing more is
 pub record IsAtRest (h : HubValue) : Type 0 where
   pub rules : keeps_rules h.script ≡ true
-  pub served : serves h.script ≡ true
+  pub names : has_utf8_names h.script ≡ true
   pub followed : are_followed h.script h.lines ≡ true
   pub ends : ends_turn (due h.script (kept_now h)) ≡ true
 

@@ -18,7 +18,8 @@ use Rattle.rules.specs.State.{world_of}
 use Rattle.rules.specs.Performed.{ends_turn}
 use Rattle.planner.specs.Room.{AreLeft, handles_fit, is_decided, turn_fits}
 use Rattle.tracker.specs.Room.{HasRoom}
-use Rattle.performed.specs.Served.{serves}
+use Rattle.watched_tracker.specs.Asked.{masks_asked}
+use Rattle.performed.specs.Names.{has_utf8_names}
 use Rattle.performed.specs.Followed.{are_followed}
 use Rattle.performed.specs.Told.{are_told}
 use Rattle.performed.specs.Laws.{has_no_mark}
@@ -40,17 +41,18 @@ pub record IsPlanOf (s : Script) (k : Kept) (p : Plan) : Type 0 where
   pub faults : p.faults ≡ s.faults
   pub calls : p.calls ≡ k.history.calls
 
--- the lines of a script that is served: each was due, and where the slot tells its world and its plan, they are those of the lines
+-- the lines of a script: each was due, and where the slot tells its world and its plan, they are those of the lines
 pub record AreServed (s : Script) (lines : List Line) (w : Option World) (p : Option Plan) : Type 0 where
   pub rules : keeps_rules s ≡ true
-  pub served : serves s ≡ true
+  pub served : has_utf8_names s ≡ true
   pub followed : are_followed s lines ≡ true
   pub world : IfSome w (IsWorldOf s lines)
   pub plan : IfSome p (IsPlanOf s (kept_of s lines))
 
--- so are the lines of the parts, and the tracker keeps what they say; the edits that are under way are short
+-- so are the lines of the parts, the tracker keeps what they say, and the masks are the script's; the edits that are under way are short
 pub record IsTied (p : Parts) : Type 0 where
   pub kept : p.kept ≡ kept_of p.script p.lines.lines
+  pub masks : p.masks ≡ masks_asked p.script
   pub lines : AreServed p.script p.lines.lines p.world p.plan
   pub short : are_short (length p.lines.lines) p.kept.jobs ≡ true
 
@@ -72,6 +74,7 @@ pub record KeepsAll (old new : Parts) : Type 0 where
   pub script : new.script ≡ old.script
   pub lines : new.lines.lines ≡ old.lines.lines
   pub kept : new.kept ≡ old.kept
+  pub masks : new.masks ≡ old.masks
   pub world : new.world ≡ old.world
   pub plan : new.plan ≡ old.plan
   pub spare : old.lines.spare ≤ new.lines.spare

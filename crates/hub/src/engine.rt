@@ -2,7 +2,6 @@
 
 use adn::{Edit, Plan, PlanError};
 use apdu::{Memory, Text};
-use content_tracker::ContentTracker;
 use epoch_cache::CachedFiles;
 use family_files::plan_of_family;
 use planner::{EditPlans, LeftRows};
@@ -10,6 +9,8 @@ use report::ReservedLines;
 use rules::Decision;
 use script::Script;
 use std::alloc::Global;
+use watched_tracker::WatchedTracker;
+use watchers::Filter;
 
 /// A turn has so many lines at most, its mark among them.
 pub const LINES_OF_TURN: usize = 98;
@@ -22,12 +23,12 @@ pub const BYTES_OF_PUBLICATION: usize = 32;
 
 /// The parts of a hub.
 #[derive(Drop)]
-pub struct Engine<S> {
+pub struct Engine<S, P: Filter> {
     pub alloc: Global,
     pub slot: S,
     pub script: Script,
     pub lines: ReservedLines,
-    pub tracker: ContentTracker,
+    pub tracker: WatchedTracker<P>,
 }
 
 /// Plans edits for the files that are current.

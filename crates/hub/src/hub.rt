@@ -7,15 +7,15 @@ ghost use Rattle.rules.specs.Kept.{actor_count};
 ghost use Rattle.rules.specs.Work.{is_finished as is_run_finished, is_idle as is_actor_idle};
 ghost use Rattle.rules.specs.Legal.{legal};
 ghost use Rattle.performed.specs.Placed.{are_placed, is_turn_allowed};
+ghost use Rattle.watched_tracker.specs.Asked.{watches_asked};
 ghost use Rattle.hub.specs.DueSoFar.{IsDueSoFar};
 ghost use Rattle.hub.specs.Hub.{ChangesNothingOrBreaks, IsAtRest, TakesTurn, kept_now, turn_answer};
 
 use crate::engine::Engine;
-use crate::served::script_is_served;
+use crate::names::script_names_are_utf8;
 use crate::turn::Turn;
 use apdu::Memory;
 use card_model::ScriptedSlot;
-use content_tracker::ContentTracker;
 use performed::{
     finished_runs_are_legal, turns_that_do_not_wait_do_something, turns_that_do_not_wait_move,
 };
@@ -23,16 +23,18 @@ use report::{Line, Mode, Report, ReservedLines};
 use script::Script;
 use std::alloc::Global;
 use std::marker::Model;
+use watched_tracker::WatchedTracker;
+use watchers::{Filter, WatchList};
 
 /// A hub between the card of a slot and the actors of a script. Contracts see the script, the lines with the newest first, and the world
 /// and the planned faults where the slot tells them. Behind want of memory in mid-turn it is not whole, and answers nothing but that.
 #[derive(Drop)]
-pub struct Hub<S: ScriptedSlot> {
-    engine: Engine<S>,
+pub struct Hub<S: ScriptedSlot, P: Filter> {
+    engine: Engine<S, P>,
     whole: bool,
 }
 
-impl<S: ScriptedSlot> Model for Hub<S> {
+impl<S: ScriptedSlot, P: Filter> Model for Hub<S, P> {
     ghost use Rattle.std.specs.Prelude.{◌≡◌, true};
     ghost use Rattle.hub.specs.Hub.{HubValue};
 
@@ -52,14 +54,20 @@ impl<S: ScriptedSlot> Model for Hub<S> {
     ghost invariant = { λ h. h.whole ≡ true → IsSettled (parts S.Slot.world S.Slot.plan h.engine) };
 }
 
-impl<S: ScriptedSlot + Drop> Hub<S> {
-    /// A hub with no lines, over an empty slot with the script's cards.
+impl<S: ScriptedSlot + Drop, P: Filter + Drop> Hub<S, P> {
+    /// A hub with no lines, over an empty slot with the script's cards, with one watch for each `watch` of the script, in its order.
     #[tactic(auto, using(crate::proofs::Scripts::few_actors))]
-    pub fn new(alloc: Global, slot: S, script: Script) -> Result<Hub<S>, Memory>
+    pub fn new(
+        alloc: Global,
+        slot: S,
+        script: Script,
+        watches: WatchList<P>,
+    ) -> Result<Hub<S, P>, Memory>
         requires rules { keeps_rules script ≡ true }
         requires world { IfSome (S.Slot.world slot) (λ w. w ≡ first_world script) }
         requires plan { IfSome (S.Slot.plan slot)
             (λ p. p ≡ record { faults = script.faults; calls = 0 }) }
+        requires watches { watches ≡ watches_asked script }
         ensures { IfOk result (λ h. h ≡ record {
           script = script;
           lines = [];
@@ -68,8 +76,8 @@ impl<S: ScriptedSlot + Drop> Hub<S> {
           whole = true;
         }) }
     {
-        script_is_served(&script);
-        let tracker = ContentTracker::new(alloc, &script)?;
+        script_names_are_utf8(&script);
+        let tracker = WatchedTracker::new(alloc, &script, watches)?;
         Ok(Hub {
             engine: Engine {
                 alloc,

@@ -4,9 +4,9 @@
 
 mod engine;
 mod hub;
+mod names;
 mod perform;
 mod publish;
-mod served;
 mod turn;
 
 pub use hub::Hub;

@@ -21,10 +21,11 @@ ghost use Rattle.hub.specs.Settled.{BreaksBehind, HasOneMore, IsSince, IsUnderWa
 use crate::engine::{BYTES_OF_PUBLICATION, BYTES_OF_TURN, Engine};
 use apdu::{Command, Memory, Text};
 use card_model::{Fault, ScriptedSlot, Slot, WorldEvent, WorldRefusal};
-use planner::begun_of;
+use planner::{begun_of, operation_now};
 use report::{Answer, Line};
 use rules::{Decision, Due};
-use script::Script;
+use script::{Operation, Script};
+use watchers::Filter;
 
 fn is_at(call: u64, fault: &Fault) -> bool
     ensures { result ≡ (fault.now.at == call) }
@@ -65,10 +66,10 @@ fn refused(refusal: WorldRefusal) -> Answer
     }
 }
 
-impl<S: ScriptedSlot> Engine<S> {
+impl<S: ScriptedSlot, P: Filter + Drop> Engine<S, P> {
     fn tell_end(&mut self, actor: u8, epoch: u64, event: u64)
         requires turn { IsUnderWay actor (parts S.Slot.world S.Slot.plan self.old) }
-        requires due { rules.due self.old.script self.old.tracker ≡ Due.TellEnd epoch event }
+        requires due { rules.due self.old.script self.old.tracker.kept ≡ Due.TellEnd epoch event }
         ensures line { HasOneMore (parts S.Slot.world S.Slot.plan self.old)
             (parts S.Slot.world S.Slot.plan self.new) }
         ensures spare_bytes { self.old.lines.spare_bytes ≤ self.new.lines.spare_bytes + 608 }
@@ -84,7 +85,7 @@ impl<S: ScriptedSlot> Engine<S> {
 
     fn tell_refusal(&mut self, actor: u8, family: u8, event: u64)
         requires turn { IsUnderWay actor (parts S.Slot.world S.Slot.plan self.old) }
-        requires due { rules.due self.old.script self.old.tracker ≡ Due.TellRefusal family event }
+        requires due { rules.due self.old.script self.old.tracker.kept ≡ Due.TellRefusal family event }
         ensures line { HasOneMore (parts S.Slot.world S.Slot.plan self.old)
             (parts S.Slot.world S.Slot.plan self.new) }
         ensures spare_bytes { self.old.lines.spare_bytes ≤ self.new.lines.spare_bytes + 608 }
@@ -95,16 +96,16 @@ impl<S: ScriptedSlot> Engine<S> {
 
     /// Whether the card acts where the next call fails.
     fn next_acts(&self) -> bool
-        requires { self.now.tracker.history.calls + 1 < 2 ^ 64 }
-        ensures { result ≡ slots.acted_of (next_fault self.now.script self.now.tracker) }
+        requires { self.now.tracker.kept.history.calls + 1 < 2 ^ 64 }
+        ensures { result ≡ slots.acted_of (next_fault self.now.script self.now.tracker.kept) }
     {
         acted_at(&self.script, self.tracker.kept().history.calls + 1)
     }
 
     fn send(&mut self, actor: u8, from: u64, command: Command) -> Result<(), Memory>
         requires turn { IsUnderWay actor (parts S.Slot.world S.Slot.plan self.old) }
-        requires since { IsSince from self.old.tracker }
-        requires due { rules.due self.old.script self.old.tracker ≡ Due.Send command }
+        requires since { IsSince from self.old.tracker.kept }
+        requires due { rules.due self.old.script self.old.tracker.kept ≡ Due.Send command }
         ensures line { OnOk result (HasOneMore (parts S.Slot.world S.Slot.plan self.old)
             (parts S.Slot.world S.Slot.plan self.new)) }
         ensures spare_bytes { self.old.lines.spare_bytes ≤ self.new.lines.spare_bytes + 608 }
@@ -138,7 +139,7 @@ impl<S: ScriptedSlot> Engine<S> {
 
     fn reset(&mut self, actor: u8)
         requires turn { IsUnderWay actor (parts S.Slot.world S.Slot.plan self.old) }
-        requires due { rules.due self.old.script self.old.tracker ≡ Due.ResetCard }
+        requires due { rules.due self.old.script self.old.tracker.kept ≡ Due.ResetCard }
         ensures line { HasOneMore (parts S.Slot.world S.Slot.plan self.old)
             (parts S.Slot.world S.Slot.plan self.new) }
         ensures spare_bytes { self.old.lines.spare_bytes ≤ self.new.lines.spare_bytes + 608 }
@@ -157,7 +158,7 @@ impl<S: ScriptedSlot> Engine<S> {
 
     fn try_event(&mut self, actor: u8, from: u64, event: WorldEvent) -> Result<(), Memory>
         requires turn { IsUnderWay actor (parts S.Slot.world S.Slot.plan self.old) }
-        requires due { rules.due self.old.script self.old.tracker ≡ Due.TryEvent event }
+        requires due { rules.due self.old.script self.old.tracker.kept ≡ Due.TryEvent event }
         ensures line { OnOk result (HasOneMore (parts S.Slot.world S.Slot.plan self.old)
             (parts S.Slot.world S.Slot.plan self.new)) }
         ensures spare_bytes { self.old.lines.spare_bytes ≤ self.new.lines.spare_bytes + 608 }
@@ -176,9 +177,9 @@ impl<S: ScriptedSlot> Engine<S> {
 
     /// The number of the operation that the actor has begun.
     fn begun(&self, actor: u8) -> u32
-        requires { is_some (begun_in actor self.now.tracker.jobs) ≡ true }
+        requires { is_some (begun_in actor self.now.tracker.kept.jobs) ≡ true }
         ensures { has_value (λ (b : Begun). b.index == result)
-            (begun_in actor self.now.tracker.jobs) ≡ true }
+            (begun_in actor self.now.tracker.kept.jobs) ≡ true }
     {
         match begun_of(actor, &self.tracker.kept().jobs) {
             Some(begun) => begun.index,
@@ -188,13 +189,13 @@ impl<S: ScriptedSlot> Engine<S> {
 
     fn answer(&mut self, actor: u8, from: u64, answer: Answer) -> Result<(), Memory>
         requires turn { IsUnderWay actor (parts S.Slot.world S.Slot.plan self.old) }
-        requires begun { is_some (begun_in actor self.old.tracker.jobs) ≡ true }
+        requires begun { is_some (begun_in actor self.old.tracker.kept.jobs) ≡ true }
         requires given { is_given_or_refused answer
-            (rules.due self.old.script self.old.tracker) ≡ true }
+            (rules.due self.old.script self.old.tracker.kept) ≡ true }
         requires told { IfSome (S.Slot.world self.old.slot)
-            (λ w. is_refusal_told w answer (tried_event self.old.tracker) ≡ true) }
+            (λ w. is_refusal_told w answer (tried_event self.old.tracker.kept) ≡ true) }
         requires bytes { most_of_answer answer ≤ 608 }
-        requires moved { is_holding answer ≡ true → from < self.old.tracker.history.events }
+        requires moved { is_holding answer ≡ true → from < self.old.tracker.kept.history.events }
         ensures line { OnOk result (HasOneMore (parts S.Slot.world S.Slot.plan self.old)
             (parts S.Slot.world S.Slot.plan self.new)) }
         ensures spare_bytes { self.old.lines.spare_bytes ≤ self.new.lines.spare_bytes + 608 }
@@ -210,23 +211,36 @@ impl<S: ScriptedSlot> Engine<S> {
         self.tracker.answer(&self.script, &line)
     }
 
+    /// The answer that is due: the notices of an actor are those that its watch holds.
+    fn answer_held(&self, actor: u8, answer: Answer) -> Answer
+        requires turn { IsUnderWay actor (parts S.Slot.world S.Slot.plan self.now) }
+        requires due { rules.due self.now.script self.now.tracker.kept ≡ Due.Give answer }
+        ensures { result ≡ answer }
+    {
+        match operation_now(&self.script, actor, &self.tracker.kept().jobs) {
+            Some(Operation::Notices) => self.tracker.notices(actor),
+            _ => answer,
+        }
+    }
+
     fn give(&mut self, actor: u8, from: u64, answer: Answer) -> Result<(), Memory>
         requires turn { IsUnderWay actor (parts S.Slot.world S.Slot.plan self.old) }
-        requires since { IsSince from self.old.tracker }
-        requires due { rules.due self.old.script self.old.tracker ≡ Due.Give answer }
+        requires since { IsSince from self.old.tracker.kept }
+        requires due { rules.due self.old.script self.old.tracker.kept ≡ Due.Give answer }
         ensures line { OnOk result (HasOneMore (parts S.Slot.world S.Slot.plan self.old)
             (parts S.Slot.world S.Slot.plan self.new)) }
         ensures spare_bytes { self.old.lines.spare_bytes ≤ self.new.lines.spare_bytes + 608 }
         ensures err { OnErr result (BreaksBehind from
             (parts S.Slot.world S.Slot.plan self.old) (parts S.Slot.world S.Slot.plan self.new)) }
     {
+        let answer = self.answer_held(actor, answer);
         self.answer(actor, from, answer)
     }
 
     fn begin(&mut self, actor: u8, op: u32, decision: Option<Decision>)
         requires turn { IsUnderWay actor (parts S.Slot.world S.Slot.plan self.old) }
-        requires due { rules.due self.old.script self.old.tracker ≡ Due.Begin op }
-        requires decision { IsSomeDecision self.old.script (line.Begin actor op) self.old.tracker
+        requires due { rules.due self.old.script self.old.tracker.kept ≡ Due.Begin op }
+        requires decision { IsSomeDecision self.old.script (line.Begin actor op) self.old.tracker.kept
             decision }
         ensures line { HasOneMore (parts S.Slot.world S.Slot.plan self.old)
             (parts S.Slot.world S.Slot.plan self.new) }
@@ -251,10 +265,10 @@ impl<S: ScriptedSlot> Engine<S> {
         begin: Option<Decision>,
     ) -> Result<(), Memory>
         requires turn { IsUnderWay actor (parts S.Slot.world S.Slot.plan self.old) }
-        requires since { IsSince from self.old.tracker }
-        requires due { rules.due self.old.script self.old.tracker ≡ line }
+        requires since { IsSince from self.old.tracker.kept }
+        requires due { rules.due self.old.script self.old.tracker.kept ≡ line }
         requires performed { is_performed line ≡ true }
-        requires begin { IsBegun self.old.script actor self.old.tracker line begin }
+        requires begin { IsBegun self.old.script actor self.old.tracker.kept line begin }
         ensures line { OnOk result (HasOneMore (parts S.Slot.world S.Slot.plan self.old)
             (parts S.Slot.world S.Slot.plan self.new)) }
         ensures spare_bytes { self.old.lines.spare_bytes ≤ self.new.lines.spare_bytes + 608 }
@@ -277,11 +291,11 @@ impl<S: ScriptedSlot> Engine<S> {
     // The text that is ready, or a new one, and room for it.
     fn text_for(&mut self, family: u8, ready: Option<Text>) -> Result<Text, Memory>
         requires family { family < family_count }
-        requires ready { IfSome ready (λ t. t ≡ kept_text family self.old.tracker) }
+        requires ready { IfSome ready (λ t. t ≡ kept_text family self.old.tracker.kept) }
         requires bytes { most_of_text ready ≤ self.old.lines.spare_bytes }
         ensures same { KeepsAll (parts S.Slot.world S.Slot.plan self.old)
             (parts S.Slot.world S.Slot.plan self.new) }
-        ensures text { IfOk result (λ t. t ≡ kept_text family self.old.tracker) }
+        ensures text { IfOk result (λ t. t ≡ kept_text family self.old.tracker.kept) }
         ensures room { IfOk result (λ t. 32 + length t ≤ self.new.lines.spare_bytes) }
         ensures spare_bytes { IfOk result (λ t. LeavesRoom (32 + length t) (most_of_text ready)
             self.old.lines.spare_bytes self.new.lines.spare_bytes) }
@@ -310,13 +324,13 @@ impl<S: ScriptedSlot> Engine<S> {
         ready: Option<Text>,
     ) -> Result<(), Memory>
         requires turn { IsUnderWay actor (parts S.Slot.world S.Slot.plan self.old) }
-        requires due { rules.due self.old.script self.old.tracker ≡ Due.Publish family }
+        requires due { rules.due self.old.script self.old.tracker.kept ≡ Due.Publish family }
         requires may { MayPublish from family ready (parts S.Slot.world S.Slot.plan self.old) }
         ensures line { OnOk result (HasOneMore (parts S.Slot.world S.Slot.plan self.old)
             (parts S.Slot.world S.Slot.plan self.new)) }
         ensures spare_bytes { OnOk result (LeavesRoom 0 (most_of_text ready)
             self.old.lines.spare_bytes self.new.lines.spare_bytes) }
-        ensures published { OnOk result (is_some self.new.tracker.turn.published ≡ true) }
+        ensures published { OnOk result (is_some self.new.tracker.kept.turn.published ≡ true) }
         ensures err { OnErr result (BreaksBehind from
             (parts S.Slot.world S.Slot.plan self.old) (parts S.Slot.world S.Slot.plan self.new)) }
     {

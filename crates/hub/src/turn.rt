@@ -9,6 +9,7 @@ ghost use Rattle.rules.specs.Due as rules;
 ghost use Rattle.rules.specs.Kept.{actor_count};
 ghost use Rattle.rules.specs.Performed as performed;
 ghost use Rattle.rules.specs.Work.{is_finished as is_run_finished, is_idle};
+ghost use Rattle.watched_tracker.specs.Watched.{keeping};
 ghost use Rattle.hub.specs.Hub as hub;
 ghost use Rattle.hub.specs.Parts.{parts};
 ghost use Rattle.hub.specs.Decided.{IsBegun, IsDecision, MayBegin};
@@ -25,6 +26,7 @@ use planner::{
 };
 use report::Line;
 use rules::{Decision, Due};
+use watchers::Filter;
 
 /// What a turn of an actor came to.
 #[derive(Clone, Copy, Debug, PartialEq, Eq)]
@@ -49,12 +51,12 @@ fn ends_turn(line: &Due) -> bool
     matches!(line, Due::Rest | Due::WaitFor(_) | Due::EndOfActor)
 }
 
-impl<S: ScriptedSlot> Engine<S> {
+impl<S: ScriptedSlot, P: Filter + Drop> Engine<S, P> {
     /// Whether the run is not finished.
     #[tactic(auto, using(crate::proofs::Scripts::few_actors))]
     pub fn pending(&self) -> bool
         requires { IsTied (parts S.Slot.world S.Slot.plan self.now) }
-        ensures { result ≡ not (is_run_finished self.now.script self.now.tracker) }
+        ensures { result ≡ not (is_run_finished self.now.script self.now.tracker.kept) }
     {
         !is_finished(&self.script, self.tracker.kept())
     }
@@ -63,7 +65,7 @@ impl<S: ScriptedSlot> Engine<S> {
     #[tactic(auto, using(crate::proofs::Scripts::few_actors))]
     pub fn turn_answer(&self, actor: u8) -> Turn
         requires { IsTied (parts S.Slot.world S.Slot.plan self.now) }
-        ensures { result ≡ hub.turn_answer self.now.script self.now.tracker actor }
+        ensures { result ≡ hub.turn_answer self.now.script self.now.tracker.kept actor }
     {
         let kept = self.tracker.kept();
         if has_ended(&self.script, kept, actor) {
@@ -79,7 +81,7 @@ impl<S: ScriptedSlot> Engine<S> {
     fn mark_decision(&self, actor: u8) -> Result<Decision, Memory>
         requires { IsTied (parts S.Slot.world S.Slot.plan self.now) }
         ensures { IfOk result (λ d. IsDecision self.now.script (line.Turn actor)
-            self.now.tracker d) }
+            self.now.tracker.kept d) }
     {
         actors_stay_plain();
         let kept = self.tracker.kept();
@@ -89,7 +91,7 @@ impl<S: ScriptedSlot> Engine<S> {
     /// What the first line of the actor's next operation decides, unless one is under way.
     fn begin_decision(&self, actor: u8) -> Result<Option<Decision>, Memory>
         requires { IsTied (parts S.Slot.world S.Slot.plan self.now) }
-        ensures { IfOk result (λ begin. MayBegin self.now.script self.now.tracker actor begin) }
+        ensures { IfOk result (λ begin. MayBegin self.now.script self.now.tracker.kept actor begin) }
     {
         let kept = self.tracker.kept();
         if begun_of(actor, &kept.jobs).is_some() {
@@ -155,7 +157,7 @@ impl<S: ScriptedSlot> Engine<S> {
         ensures same { KeepsAll (parts S.Slot.world S.Slot.plan self.old)
             (parts S.Slot.world S.Slot.plan self.new) }
         ensures decision { IfOk result (λ d. IsDecision self.old.script (line.Turn actor)
-            self.old.tracker d) }
+            self.old.tracker.kept d) }
         ensures few { IfOk result (λ d. length self.new.lines.lines + 512 < 2 ^ 64) }
         ensures spare { IfOk result (λ d. 0 < self.new.lines.spare) }
         ensures spare_bytes { IfOk result (λ d. 32 ≤ self.new.lines.spare_bytes) }
@@ -172,11 +174,12 @@ impl<S: ScriptedSlot> Engine<S> {
     #[tactic(auto, using(crate::proofs::Scripts::few_actors))]
     fn keep_mark(&mut self, actor: u8, decision: Decision)
         requires tied { IsTied (parts S.Slot.world S.Slot.plan self.old) }
-        requires decision { IsDecision self.old.script (line.Turn actor) self.old.tracker
+        requires decision { IsDecision self.old.script (line.Turn actor) self.old.tracker.kept
             decision }
-        requires room { HasRoom self.old.tracker }
+        requires room { HasRoom self.old.tracker.kept }
         ensures { self.new ≡ record self.old {
-          tracker = kept_after self.old.script (line.Turn actor) self.old.tracker;
+          tracker = keeping (kept_after self.old.script (line.Turn actor) self.old.tracker.kept)
+              self.old.tracker;
         } }
     {
         if actor == 0 {
@@ -189,10 +192,10 @@ impl<S: ScriptedSlot> Engine<S> {
     /// The mark of a turn of the actor.
     pub fn mark(&mut self, actor: u8, decision: Decision)
         requires settled { IsSettled (parts S.Slot.world S.Slot.plan self.old) }
-        requires decision { IsDecision self.old.script (line.Turn actor) self.old.tracker
+        requires decision { IsDecision self.old.script (line.Turn actor) self.old.tracker.kept
             decision }
         requires actor { actor ≤ actor_count self.old.script }
-        requires pending { is_run_finished self.old.script self.old.tracker ≡ false }
+        requires pending { is_run_finished self.old.script self.old.tracker.kept ≡ false }
         requires few { length self.old.lines.lines + 512 < 2 ^ 64 }
         requires spare { 0 < self.old.lines.spare }
         requires spare_bytes { 32 ≤ self.old.lines.spare_bytes }
@@ -212,14 +215,14 @@ impl<S: ScriptedSlot> Engine<S> {
     #[tactic(auto, using(crate::proofs::Scripts::few_actors))]
     fn next(&self, left: &mut LeftRows) -> Result<Due, Memory>
         requires rules { keeps_rules self.now.script ≡ true }
-        requires fits { turn_fits self.now.tracker.turn.actor self.now.tracker.jobs ≡ true }
-        requires left { AreLeftInTurn self.now.tracker.turn.actor self.now.tracker.jobs
+        requires fits { turn_fits self.now.tracker.kept.turn.actor self.now.tracker.kept.jobs ≡ true }
+        requires left { AreLeftInTurn self.now.tracker.kept.turn.actor self.now.tracker.kept.jobs
             left.old.ready }
         ensures value { IfOk result (λ line.
-            line ≡ rules.due self.now.script self.now.tracker) }
+            line ≡ rules.due self.now.script self.now.tracker.kept) }
         ensures ready { is_some left.old.ready ≡ true → IsOk result }
-        ensures undecided { turn_is_decided self.now.tracker.turn.actor
-            self.now.tracker.jobs ≡ false → IsOk result }
+        ensures undecided { turn_is_decided self.now.tracker.kept.turn.actor
+            self.now.tracker.kept.jobs ≡ false → IsOk result }
         ensures kept { IfOk result (λ line. is_given line ≡ false → left.new ≡ left.old) }
     {
         due_with(left, &self.script, self.tracker.kept())
@@ -227,7 +230,7 @@ impl<S: ScriptedSlot> Engine<S> {
 
     /// What was made ready, unless an event came since there were so many.
     fn unless_moved<T: Drop>(&self, events: u64, ready: Option<T>) -> Option<T>
-        ensures { result ≡ (if nat_lt events self.now.tracker.history.events then None else ready) }
+        ensures { result ≡ (if nat_lt events self.now.tracker.kept.history.events then None else ready) }
     {
         if events < self.tracker.kept().history.events {
             None
@@ -246,10 +249,10 @@ impl<S: ScriptedSlot> Engine<S> {
         begin: Option<Decision>,
     ) -> Result<Option<Text>, Memory>
         requires turn { IsUnderWay actor (parts S.Slot.world S.Slot.plan self.old) }
-        requires since { IsSince events self.old.tracker }
-        requires due { rules.due self.old.script self.old.tracker ≡ line }
+        requires since { IsSince events self.old.tracker.kept }
+        requires due { rules.due self.old.script self.old.tracker.kept ≡ line }
         requires goes_on { performed.ends_turn line ≡ false }
-        requires begin { IsBegun self.old.script actor self.old.tracker line begin }
+        requires begin { IsBegun self.old.script actor self.old.tracker.kept line begin }
         requires may { MayDo events line text (parts S.Slot.world S.Slot.plan self.old) }
         ensures line { OnOk result (HasOneMore (parts S.Slot.world S.Slot.plan self.old)
             (parts S.Slot.world S.Slot.plan self.new)) }
@@ -274,7 +277,7 @@ impl<S: ScriptedSlot> Engine<S> {
     pub fn take_turn(&mut self, actor: u8, ready: Ready) -> Result<(), Memory>
         requires settled { IsSettled (parts S.Slot.world S.Slot.plan self.old) }
         requires actor { actor ≤ actor_count self.old.script }
-        requires awake { is_idle self.old.script self.old.tracker actor ≡ false }
+        requires awake { is_idle self.old.script self.old.tracker.kept actor ≡ false }
         requires prepared { IsReadyFor actor ready (parts S.Slot.world S.Slot.plan self.old) }
         ensures ok { OnOk result (HasTurned actor (parts S.Slot.world S.Slot.plan self.old)
             (parts S.Slot.world S.Slot.plan self.new)) }

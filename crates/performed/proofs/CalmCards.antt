@@ -1,4 +1,4 @@
--- Over a script that is served a card is inside while an epoch lives, and at the end of each turn its open channels are then the basic one and
+-- Over a script a card is inside while an epoch lives, and at the end of each turn its open channels are then the basic one and
 -- those held.
 use Rattle.std.proofs.Common.{◌≡◌, ◌≤◌, inl, inr, ℕ, zero, suc, ◌+◌, ◌==◌, ◌&&◌, ◌||◌, not, Bool, true, false, if◌then◌else◌, Option, Some, None, List, [], ◌∷◌, ◌++◌, length, refl, ap, sym, ◌∙◌, subst, arith, true≢false}
 use Rattle.std.specs.Prelude.{slice_get, nat_lt, nat_le, option_and_then, is_some, is_none}

@@ -49,7 +49,7 @@ use Rattle.rules.specs.After.{edit_of, is_raw, kept_of}
 use Rattle.rules.specs.Due.{with_ended, with_card, loaded, answer_of_outcome, outcome_answer, answer_of, answer_of_begun, answer_of_actor, is_lost, due, due_answer, on_handle, raw_on_handle, planning_answer, plan_refusal, edit_answer, decided_answer, done_publication, done_in_turn}
 use Rattle.rules.specs.Rules.{is_turn_of, is_begun_at, optional_number, same_answer, is_outside_raw, is_update_right, is_done_by, is_done_right, turn_operation, edit_turn, edit_turn_at, edit_turn_by, edit_turn_of, has_right_edit, has_right_response}
 use Rattle.rules.specs.State.{world_of}
-use Rattle.performed.specs.Served.{is_served, serves}
+use Rattle.performed.specs.Names.{has_utf8_name, has_utf8_names}
 use Rattle.performed.specs.Followed.{is_given_or_refused, is_followed, are_followed}
 use Rattle.performed.specs.Told.{is_told, are_told}
 use Rattle.performed.proofs.CalmLent.{given_of}
@@ -231,7 +231,7 @@ sent_again d a c x r h = never h
 abbrev pub HaveTexts : Script → Type 0
 HaveTexts s = (i n f : ℕ) (e : Edit) → edit_of (operation_at s i n) ≡ Some (f, e) → HasText e
 
-module _ (agrees : KeptAgrees) (plans : PlansForCard) (makes : PlansMakeEdits) (s : Script) (rules : keeps_rules s ≡ true) (served : serves s ≡ true) (texts : HaveTexts s) (earlier : List Line) (followed : are_followed s earlier ≡ true) (told : are_told s earlier ≡ true) where
+module _ (agrees : KeptAgrees) (plans : PlansForCard) (makes : PlansMakeEdits) (s : Script) (rules : keeps_rules s ≡ true) (served : has_utf8_names s ≡ true) (texts : HaveTexts s) (earlier : List Line) (followed : are_followed s earlier ≡ true) (told : are_told s earlier ≡ true) where
   abbrev k : Kept
   k = kept_of s earlier
 
@@ -348,7 +348,7 @@ module _ (agrees : KeptAgrees) (plans : PlansForCard) (makes : PlansMakeEdits) (
 
 -- ---- the names of a served script's edits
 
-set_text : (op : Operation) (f : ℕ) (e : Edit) → is_served op ≡ true → family_edit op ≡ Some (f, e) → HasText e
+set_text : (op : Operation) (f : ℕ) (e : Edit) → has_utf8_name op ≡ true → family_edit op ≡ Some (f, e) → HasText e
 set_text (operation.Set g at name number) f e h is =
     let same = ap (λ (p : ℕ × Edit). p.1) (one_pair (g, edit.Set at (record { name = name; number = number })) (f, e) is) in
     subst HasText same (IsUtf8-from_is_utf8 name h)
@@ -369,13 +369,13 @@ set_text operation.Look f e h is = absurd (cc)
 set_text (operation.Watch mask) f e h is = absurd (cc)
 set_text operation.Notices f e h is = absurd (cc)
 
-pub texts_of : (s : Script) → serves s ≡ true → HaveTexts s
+pub texts_of : (s : Script) → has_utf8_names s ≡ true → HaveTexts s
 texts_of s served i n f e h =
     let x = edit_is (operation_at s i n) f e h in
-    set_text x.op f e (at_passes is_served s served i n x.op x.is) x.edits
+    set_text x.op f e (at_passes has_utf8_name s served i n x.op x.is) x.edits
 
 -- no line breaks the rule of edits
-pub edits_right : KeptAgrees → PlansForCard → PlansMakeEdits → (s : Script) (earlier : List Line) (l : Line) → keeps_rules s ≡ true → serves s ≡ true → are_followed s (l ∷ earlier) ≡ true → are_told s (l ∷ earlier) ≡ true → has_right_edit s (world_of s earlier) (kept_of s earlier) l ≡ true
+pub edits_right : KeptAgrees → PlansForCard → PlansMakeEdits → (s : Script) (earlier : List Line) (l : Line) → keeps_rules s ≡ true → has_utf8_names s ≡ true → are_followed s (l ∷ earlier) ≡ true → are_told s (l ∷ earlier) ≡ true → has_right_edit s (world_of s earlier) (kept_of s earlier) l ≡ true
 edits_right agrees plans makes s earlier l rules served followed told =
     let p = and_parts (are_followed s earlier) (is_followed s (kept_of s earlier) l) followed in
     let q = and_parts (are_told s earlier) (is_told s (world_of s earlier) (kept_of s earlier) l) told in

@@ -37,7 +37,7 @@ use Rattle.rules.specs.After.{ended_by, begun_beside, begun_with, begun_exchange
 use Rattle.rules.specs.Due.{due, is_reset_due, event_by_stage, is_lost, with_ended, with_card}
 use Rattle.rules.specs.Performed.{is_reset}
 use Rattle.rules.specs.Rules.{is_turn_of}
-use Rattle.performed.specs.Served.{serves}
+use Rattle.performed.specs.Names.{has_utf8_names}
 use Rattle.performed.specs.Followed.{is_tried, is_followed, are_followed}
 use Rattle.performed.proofs.CalmBehind.{actor_is, none_of_framework}
 use Rattle.performed.proofs.CalmKinds.{SendsFirst, WorkFits, Sends}
@@ -221,7 +221,7 @@ module _ (s : Script) (k : Kept) (before : FrameworkOpens k) where
   line_never (line.Refused f n) t h actor work = same_never (line.Refused f n) (record { actor = refl; work = refl }) actor work
   line_never (line.Answered a i given) t h actor work = same_never (line.Answered a i given) (record { actor = refl; work = refl }) actor work
 
-framework_never : (s : Script) (lines : List Line) → serves s ≡ true → are_followed s lines ≡ true → FrameworkOpens (kept_of s lines)
+framework_never : (s : Script) (lines : List Line) → has_utf8_names s ≡ true → are_followed s lines ≡ true → FrameworkOpens (kept_of s lines)
 framework_never s [] served followed actor work = absurd (cc)
 framework_never s (l ∷ earlier) served followed actor work =
     let p = and_parts (are_followed s earlier) (is_followed s (kept_of s earlier) l) followed in
@@ -380,7 +380,7 @@ module _ (s : Script) (k : Kept) (each : (i : ℕ) → OpensAt k.turn k.history 
     line_opens (line.Refused f n) t h i = same_turn (line.Refused f n) (record { actor = refl; work = refl }) refl i
     line_opens (line.Answered a n given) t h i = own_opens (line.Answered a n given) a (λ x living p. tt) (same_turn (line.Answered a n given) (record { actor = refl; work = refl }) refl) i
 
-opens_of : (s : Script) (lines : List Line) → keeps_rules s ≡ true → serves s ≡ true → are_followed s lines ≡ true → (i : ℕ) → OpensAt (kept_of s lines).turn (kept_of s lines).history i (job_of i (kept_of s lines).jobs)
+opens_of : (s : Script) (lines : List Line) → keeps_rules s ≡ true → has_utf8_names s ≡ true → are_followed s lines ≡ true → (i : ℕ) → OpensAt (kept_of s lines).turn (kept_of s lines).history i (job_of i (kept_of s lines).jobs)
 opens_of s [] rules served followed i = λ actor work living. absurd (cc)
 opens_of s (l ∷ earlier) rules served followed i =
     let p = and_parts (are_followed s earlier) (is_followed s (kept_of s earlier) l) followed in
@@ -392,7 +392,7 @@ alive_by : (h : Past) (b : Begun) (o : Option ℕ) (other : Option Answer) → l
 alive_by h b None other lives p = absurd (true≢false (sym lives))
 alive_by h b (Some e) other lives p = ap (λ (o : Option ℕ). with_ended e o (is_lost o b.editing.lost) other) (p.unended lives)
 
-pub alive_of : (s : Script) (lines : List Line) → keeps_rules s ≡ true → serves s ≡ true → are_followed s lines ≡ true → OpensAlive (kept_of s lines)
+pub alive_of : (s : Script) (lines : List Line) → keeps_rules s ≡ true → has_utf8_names s ≡ true → are_followed s lines ≡ true → OpensAlive (kept_of s lines)
 alive_of s lines rules served followed a b begun actor work living other =
     let k : Kept = kept_of s lines in
     let lives : lives_in k.history b.epoch ≡ true = subst (λ (o : Option Begun). Lives k.history o) begun (opens_of s lines rules served followed a actor work living) in

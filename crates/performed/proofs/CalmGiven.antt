@@ -9,7 +9,7 @@ use Rattle.report.specs.declared.line.Line.TheVariants as line
 use Rattle.rules.specs.declared.kept.Kept.{Kept}
 use Rattle.rules.specs.After.{kept_of}
 use Rattle.rules.specs.Rules.{turn_operation}
-use Rattle.performed.specs.Served.{serves}
+use Rattle.performed.specs.Names.{has_utf8_names}
 use Rattle.performed.specs.Followed.{is_followed}
 use Rattle.performed.proofs.CalmCards.{GivenOf}
 use Rattle.performed.proofs.CalmEpochs.{alive_of}
@@ -32,7 +32,7 @@ no_manage s k t a c r h other = by_ins (c.ins == manage_channel_ins) refl
     by_ins true e = absurd (true≢false (sym (manages_op s k c (exchange_manages s k a c r t h e)) ∙ other))
     by_ins false e = refl
 
-pub given_of : (s : Script) → keeps_rules s ≡ true → serves s ≡ true → GivenOf s
+pub given_of : (s : Script) → keeps_rules s ≡ true → has_utf8_names s ≡ true → GivenOf s
 given_of s rules served lines followed =
     let k : Kept = kept_of s lines in
     let t : Sends s k = sends_of s lines served followed in

@@ -1,4 +1,4 @@
--- What a turn of a script that is served sends, by the operation whose turn it is: an UPDATE only an application's command or an edit, a
+-- What a turn of a script sends, by the operation whose turn it is: an UPDATE only an application's command or an edit, a
 -- MANAGE CHANNEL only an open or a close, a VERIFY only a verification.
 use Rattle.std.proofs.Common.{◌≡◌, ◌⊎◌, ℕ, ◌==◌, ◌&&◌, not, Bool, true, false, Option, Some, None, List}
 use Rattle.apdu.specs.Values.{CommandValue, ResponseValue}

@@ -41,7 +41,7 @@ use Rattle.rules.specs.After.{next_or_over, stage_of_sent, stage_after, opened_b
 use Rattle.rules.specs.Due.{due}
 use Rattle.rules.specs.Rules.{is_turn_of, turn_operation, operation_in_turn}
 use Rattle.rules.specs.Performed.{is_sent}
-use Rattle.performed.specs.Served.{is_served, serves}
+use Rattle.performed.specs.Names.{has_utf8_name, has_utf8_names}
 use Rattle.performed.specs.Followed.{is_followed, are_followed}
 use Rattle.performed.proofs.ProgressBegins.{Starts, starts}
 use Rattle.performed.proofs.ProgressJobs.{changed, mapped}
@@ -110,7 +110,7 @@ module _ (k : Kept) (actor : ℕ) (b : Begun) where
   edit_operation : (op : Option Operation) → is_writer op ≡ true → IsReader op → WorkFits (is_living k.history) k.handles (Some actor) op (work_of_edit k actor b (edit_of op)).work
   edit_operation op w r = work_passes (WorkFits (is_living k.history) k.handles (Some actor) op) (record { writing = w; reading = λ path. r; resting = tt; lacking = λ key. tt; refusing = λ refusal. tt }) k actor b (edit_of op)
 
-  operation_fits : (op : Operation) → is_served op ≡ true → WorkFits (is_living k.history) k.handles (Some actor) (Some op) (work_of_operation k actor b op).work
+  operation_fits : (op : Operation) → has_utf8_name op ≡ true → WorkFits (is_living k.history) k.handles (Some actor) (Some op) (work_of_operation k actor b op).work
   operation_fits (operation.Insert card) h = tt
   operation_fits operation.Out h = tt
   operation_fits (operation.Arm change) h = tt
@@ -168,7 +168,7 @@ no_operation : (s : Script) (b : Option Begun) → begun_operation s zero b ≡ 
 no_operation s None = refl
 no_operation s (Some b) = refl
 
-marked_fits : (s : Script) (a : ℕ) (k : Kept) → serves s ≡ true → Calm k.owed → WorkFits (is_living k.history) k.handles (Some a) (operation_now s a k.jobs) (decision_at s (line.Turn a) k).work
+marked_fits : (s : Script) (a : ℕ) (k : Kept) → has_utf8_names s ≡ true → Calm k.owed → WorkFits (is_living k.history) k.handles (Some a) (operation_now s a k.jobs) (decision_at s (line.Turn a) k).work
 marked_fits s zero k served h = subst (λ (o : Option Operation). WorkFits (is_living k.history) k.handles (Some 0) o (framework_work k)) (sym (no_operation s (begun_of zero k.jobs))) (framework_fits k h)
 marked_fits s (suc a) k served h = begun_fits k (suc a) (begun_of (suc a) k.jobs) (operation_now s (suc a) k.jobs) (served_now s (suc a) k.jobs served)
 
@@ -202,7 +202,7 @@ module _ (handle : ℕ) (aid : List ℕ) (work : Work) where
       next_if opened op work (is_opening f.command) (next_or_over (option_map (λ n. select_application n aid) opened)) (if refused then closing else over) (selects_next opened opened refl)
       (next_if opened op work refused closing over (closes_next opened opened refl) tt)
 
-sent_by_next : (work : Work) (op : Operation) (opened : Option ℕ) (refresh : Option ProactiveValue) (f : Final) → is_served op ≡ true → NextFits opened (Some op) work (stage_of_sent (Some op) opened refresh f)
+sent_by_next : (work : Work) (op : Operation) (opened : Option ℕ) (refresh : Option ProactiveValue) (f : Final) → has_utf8_name op ≡ true → NextFits opened (Some op) work (stage_of_sent (Some op) opened refresh f)
 sent_by_next work (operation.OpenChannel handle aid) opened refresh f h = open_next handle aid work opened f
 sent_by_next work (operation.Insert card) opened refresh f h = tt
 sent_by_next work operation.Out opened refresh f h = tt
@@ -362,7 +362,7 @@ fits_fresh alive handles actor op opened work stage e o w = subst (λ (x : Stage
 
 -- ---- every line
 
-module _ (s : Script) (served : serves s ≡ true) (k : Kept) (t : Sends s k) where
+module _ (s : Script) (served : has_utf8_names s ≡ true) (k : Kept) (t : Sends s k) where
   turn_sends : (a : ℕ) → Sends s (kept_after s (line.Turn a) k)
   turn_sends a = record {
     fits = (refl, subst (λ (o : Option Operation). WorkFits (is_living k.history) k.handles (Some a) o (decision_at s (line.Turn a) k).work) (sym (turn_stays s k a)) (marked_fits s a k served t.owed));
@@ -455,7 +455,7 @@ module _ (s : Script) (served : serves s ≡ true) (k : Kept) (t : Sends s k) wh
   line_sends (line.Refused f n) count h = refused_sends f n
   line_sends (line.Answered a i given) count h = answered_sends a i given
 
-pub sends_of : (s : Script) (lines : List Line) → serves s ≡ true → are_followed s lines ≡ true → Sends s (kept_of s lines)
+pub sends_of : (s : Script) (lines : List Line) → has_utf8_names s ≡ true → are_followed s lines ≡ true → Sends s (kept_of s lines)
 sends_of s [] served h = record { fits = tt; chain = tt; owed = tt; bare = λ h. never h }
 sends_of s (l ∷ earlier) served h =
     let p = and_parts (are_followed s earlier) (is_followed s (kept_of s earlier) l) h in

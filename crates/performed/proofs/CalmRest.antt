@@ -1,4 +1,4 @@
--- Over a script that is served, while an epoch lives and no reset is due, the board shows of each family what the card shows, or the family is
+-- Over a script, while an epoch lives and no reset is due, the board shows of each family what the card shows, or the family is
 -- stale, or a reading of it was refused that began behind the last change, or the publication of an edit is awaited: an application's UPDATE
 -- makes each wanted family stale, and a FETCH those whose files its change touches, or the card is reset; and an edit's own UPDATE that decides
 -- is published before it is answered. Without a living epoch the board shows nothing, once its end is told.
@@ -47,7 +47,7 @@ use Rattle.book_plans.specs.Law.{PlansMakeEdits}
 use Rattle.rules.specs.Laws.{KeptAgrees, KeptLooksBack, PlansForCard, ShowsCard}
 use Rattle.rules.specs.Legal.{changed_in}
 use Rattle.rules.specs.Agreement.{are_responses_right}
-use Rattle.performed.specs.Served.{serves}
+use Rattle.performed.specs.Names.{has_utf8_names}
 use Rattle.performed.specs.Followed.{is_given_or_refused, is_tried, is_followed, are_followed}
 use Rattle.performed.specs.Told.{is_told, are_told}
 use Rattle.performed.proofs.CalmLent.{state_world, state_kept, state_texts}
@@ -334,7 +334,7 @@ raw_renews raw selected c r path h g = by_write (is_update c r) raw h g
     by_write true false e q = dead q
     by_write false raw e q = dead e
 
-module _ (agrees : KeptAgrees) (looks : KeptLooksBack) (plans : PlansForCard) (makes : PlansMakeEdits) (shows : ShowsCard) (s : Script) (earlier : List Line) (rules : keeps_rules s ≡ true) (served : serves s ≡ true) (followed : are_followed s earlier ≡ true) (told : are_told s earlier ≡ true) (t : BoardTrue s earlier) where
+module _ (agrees : KeptAgrees) (looks : KeptLooksBack) (plans : PlansForCard) (makes : PlansMakeEdits) (shows : ShowsCard) (s : Script) (earlier : List Line) (rules : keeps_rules s ≡ true) (served : has_utf8_names s ≡ true) (followed : are_followed s earlier ≡ true) (told : are_told s earlier ≡ true) (t : BoardTrue s earlier) where
   abbrev before : World
   before = world_of s earlier
 
@@ -573,7 +573,7 @@ module _ (agrees : KeptAgrees) (looks : KeptLooksBack) (plans : PlansForCard) (m
 
 -- the board shows of each family what the card shows, or the family is stale, or a later reading of it was refused, or an edit's publication is
 -- awaited
-board_true : KeptAgrees → KeptLooksBack → PlansForCard → PlansMakeEdits → ShowsCard → (s : Script) (lines : List Line) → keeps_rules s ≡ true → serves s ≡ true → are_followed s lines ≡ true → are_told s lines ≡ true → BoardTrue s lines
+board_true : KeptAgrees → KeptLooksBack → PlansForCard → PlansMakeEdits → ShowsCard → (s : Script) (lines : List Line) → keeps_rules s ≡ true → has_utf8_names s ≡ true → are_followed s lines ≡ true → are_told s lines ≡ true → BoardTrue s lines
 board_true agrees looks plans makes shows s [] rules served followed told = first_true (seen s []) all_families refl
 board_true agrees looks plans makes shows s (l ∷ earlier) rules served followed told =
     let p = and_parts (are_followed s earlier) (is_followed s (kept_of s earlier) l) followed in
@@ -671,5 +671,5 @@ state_rest s lines t =
     (subst (λ (x : World). RestRight (changed_in s lines) x (kept_of s lines) (texts_of lines)) (sym (state_world s lines)) t))
 
 -- at the end of each turn, where nothing is open the board shows what the card shows, or a refusal is known
-pub rest_right : KeptAgrees → KeptLooksBack → PlansForCard → PlansMakeEdits → ShowsCard → (s : Script) (lines : List Line) → keeps_rules s ≡ true → serves s ≡ true → are_followed s lines ≡ true → are_told s lines ≡ true → ends_turn (due s (kept_of s lines)) ≡ true → is_rest_right (state_of s lines) (changed_in s lines) ≡ true
+pub rest_right : KeptAgrees → KeptLooksBack → PlansForCard → PlansMakeEdits → ShowsCard → (s : Script) (lines : List Line) → keeps_rules s ≡ true → has_utf8_names s ≡ true → are_followed s lines ≡ true → are_told s lines ≡ true → ends_turn (due s (kept_of s lines)) ≡ true → is_rest_right (state_of s lines) (changed_in s lines) ≡ true
 rest_right agrees looks plans makes shows s lines rules served followed told ends = state_rest s lines (rest_known s lines followed (turn_done s (kept_of s lines) ends) (board_true agrees looks plans makes shows s lines rules served followed told))

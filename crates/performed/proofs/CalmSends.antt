@@ -35,7 +35,7 @@ use Rattle.rules.specs.After.{is_raw}
 use Rattle.rules.specs.Due.{first_command, first_of_turn, command_by_stage, command_by_chain, due_command, due}
 use Rattle.rules.specs.Rules.{is_turn_of, turn_operation}
 use Rattle.rules.specs.Performed.{is_sent}
-use Rattle.performed.specs.Served.{is_served, serves}
+use Rattle.performed.specs.Names.{has_utf8_name, has_utf8_names}
 use Rattle.performed.specs.Followed.{is_followed}
 use Rattle.performed.proofs.CalmLent.{sent_of, lost_of}
 use Rattle.performed.proofs.CalmKinds.{is_calm, Calm, IsForm, IsExchangeOf, SendsFirst, WorkFits, SendsNext, Fits, sent_first, command_of, IsOfTurn, ChainFits, Sends, IsUpdater, IsNextOf, Kind, calm, application, opens, gives_up, closes, updates, verifies, Manages, by_open, by_refusal, by_close, ExchangeKind, FailedKind, ExchangeUpdate, ExchangeManages}
@@ -56,30 +56,30 @@ never h = absurd (true≢false (sym h))
 
 abbrev pub ServedOp : Option Operation → Type 0
 ServedOp None = Unit {0}
-ServedOp (Some op) = is_served op ≡ true
+ServedOp (Some op) = has_utf8_name op ≡ true
 
-served_get : (ops : List Operation) (i : ℕ) → list_all is_served ops ≡ true → ServedOp (slice_get ops i)
+served_get : (ops : List Operation) (i : ℕ) → list_all has_utf8_name ops ≡ true → ServedOp (slice_get ops i)
 served_get [] i h = tt
-served_get (op ∷ ops) zero h = (and_parts (is_served op) (list_all is_served ops) h).0
-served_get (op ∷ ops) (suc i) h = served_get ops i (and_parts (is_served op) (list_all is_served ops) h).1
+served_get (op ∷ ops) zero h = (and_parts (has_utf8_name op) (list_all has_utf8_name ops) h).0
+served_get (op ∷ ops) (suc i) h = served_get ops i (and_parts (has_utf8_name op) (list_all has_utf8_name ops) h).1
 
-served_list : (actors : List (List Operation)) (a : ℕ) → list_all (list_all is_served) actors ≡ true → list_all is_served (unwrap_or (slice_get actors a) []) ≡ true
+served_list : (actors : List (List Operation)) (a : ℕ) → list_all (list_all has_utf8_name) actors ≡ true → list_all has_utf8_name (unwrap_or (slice_get actors a) []) ≡ true
 served_list [] a h = refl
-served_list (ops ∷ actors) zero h = (and_parts (list_all is_served ops) (list_all (list_all is_served) actors) h).0
-served_list (ops ∷ actors) (suc a) h = served_list actors a (and_parts (list_all is_served ops) (list_all (list_all is_served) actors) h).1
+served_list (ops ∷ actors) zero h = (and_parts (list_all has_utf8_name ops) (list_all (list_all has_utf8_name) actors) h).0
+served_list (ops ∷ actors) (suc a) h = served_list actors a (and_parts (list_all has_utf8_name ops) (list_all (list_all has_utf8_name) actors) h).1
 
-served_of : (s : Script) (a : ℕ) → serves s ≡ true → list_all is_served (operations_of s a) ≡ true
+served_of : (s : Script) (a : ℕ) → has_utf8_names s ≡ true → list_all has_utf8_name (operations_of s a) ≡ true
 served_of s zero h = refl
 served_of s (suc a) h = served_list s.actors a h
 
-pub served_at : (s : Script) (a i : ℕ) → serves s ≡ true → ServedOp (operation_at s a i)
+pub served_at : (s : Script) (a i : ℕ) → has_utf8_names s ≡ true → ServedOp (operation_at s a i)
 served_at s a i h = served_get (operations_of s a) i (served_of s a h)
 
-served_begun : (s : Script) (a : ℕ) (b : Option Begun) → serves s ≡ true → ServedOp (begun_operation s a b)
+served_begun : (s : Script) (a : ℕ) (b : Option Begun) → has_utf8_names s ≡ true → ServedOp (begun_operation s a b)
 served_begun s a None h = tt
 served_begun s a (Some b) h = served_at s a b.index h
 
-pub served_now : (s : Script) (a : ℕ) (jobs : List Job) → serves s ≡ true → ServedOp (operation_now s a jobs)
+pub served_now : (s : Script) (a : ℕ) (jobs : List Job) → has_utf8_names s ≡ true → ServedOp (operation_now s a jobs)
 served_now s a jobs h = served_begun s a (begun_of a jobs) h
 
 -- ---- commands

@@ -1,4 +1,4 @@
--- Over a script that is served each VERIFY is that of a verification, and it sends no other: behind it the answer is due.
+-- Over a script each VERIFY is that of a verification, and it sends no other: behind it the answer is due.
 use Rattle.std.proofs.Common.{◌≡◌, ◌⊎◌, inl, inr, ℕ, zero, suc, ◌+◌, ◌-◌, ◌==◌, ◌&&◌, ◌||◌, not, Bool, true, false, if◌then◌else◌, List, [], ◌∷◌, replicate, Option, Some, None, is_some, refl, ap, sym, ◌∙◌, subst, true≢false}
 use Rattle.std.specs.Prelude.{option_map, nat_lt, nat_le}
 use Rattle.std.proofs.lemmas.Bool.{and_parts, and_from, eq-eqb}
@@ -39,7 +39,7 @@ use Rattle.rules.specs.After.{facts_of, decision_at, edit_of, begun_beside, begu
 use Rattle.rules.specs.Due.{command_by_chain, command_by_stage, due, due_answer, due_command, event_by_stage, is_reset_due, reset_by_stage, tried_event, answer_of_actor, answer_of_begun, answer_of_outcome, outcome_answer, with_card, with_ended, is_lost}
 use Rattle.rules.specs.Performed.{ends_turn, is_reset, is_sent}
 use Rattle.rules.specs.Rules.{is_turn_of, turn_operation, begun_in_turn, has_verified, has_right_verify, is_verify_of, operation_in_turn}
-use Rattle.performed.specs.Served.{serves}
+use Rattle.performed.specs.Names.{has_utf8_names}
 use Rattle.performed.specs.Followed.{begins_turn, is_followed, are_followed, is_tried}
 use Rattle.performed.specs.Told.{are_told}
 use Rattle.performed.proofs.MeasureSays.{stands_of}
@@ -384,7 +384,7 @@ first_unsent zero i h = never h
 first_unsent (suc n) zero h = never h
 first_unsent (suc n) (suc i) h = first_unsent n i h
 
-once_of : (s : Script) (lines : List Line) → serves s ≡ true → are_followed s lines ≡ true → Once s (kept_of s lines)
+once_of : (s : Script) (lines : List Line) → has_utf8_names s ≡ true → are_followed s lines ≡ true → Once s (kept_of s lines)
 once_of s [] served h = λ i v. absurd (first_unsent (actor_count s + 1) i v)
 once_of s (l ∷ earlier) served h =
     let p = and_parts (are_followed s earlier) (is_followed s (kept_of s earlier) l) h in
@@ -431,7 +431,7 @@ line_verify s k (line.Refused f n) t once h = refl
 line_verify s k (line.Answered a i given) t once h = refl
 
 -- each VERIFY is its operation's command, and its first
-pub verify_right : (s : Script) (earlier : List Line) (l : Line) → keeps_rules s ≡ true → serves s ≡ true → are_followed s (l ∷ earlier) ≡ true → are_told s (l ∷ earlier) ≡ true → has_right_verify s (kept_of s earlier) l ≡ true
+pub verify_right : (s : Script) (earlier : List Line) (l : Line) → keeps_rules s ≡ true → has_utf8_names s ≡ true → are_followed s (l ∷ earlier) ≡ true → are_told s (l ∷ earlier) ≡ true → has_right_verify s (kept_of s earlier) l ≡ true
 verify_right s earlier l rules served followed told =
     let p = and_parts (are_followed s earlier) (is_followed s (kept_of s earlier) l) followed in
     line_verify s (kept_of s earlier) l (sends_of s earlier served p.0) (once_of s earlier served p.0) p.1

@@ -27,7 +27,7 @@ use Rattle.rules.specs.Laws.{KeptAgrees, KeptLooksBack, PlansForCard}
 use Rattle.rules.specs.LookingBack.{completes, was_completed}
 use Rattle.rules.specs.Rules.{has_right_response}
 use Rattle.rules.specs.State.{world_of}
-use Rattle.performed.specs.Served.{serves}
+use Rattle.performed.specs.Names.{has_utf8_names}
 use Rattle.performed.specs.Followed.{is_followed, are_followed}
 use Rattle.performed.specs.Told.{is_told, are_told}
 use Rattle.performed.proofs.CalmAnswers.{told_response}
@@ -171,7 +171,7 @@ module _ (looks : KeptLooksBack) (s : Script) (earlier : List Line) (before : At
 
 -- ---- an exchange
 
-module _ (agrees : KeptAgrees) (s : Script) (rules : keeps_rules s ≡ true) (served : serves s ≡ true) (earlier : List Line) (followed : are_followed s earlier ≡ true) (told : are_told s earlier ≡ true) (t : Edited s (world_of s earlier) (kept_of s earlier)) (a : ℕ) (c : CommandValue) (r : ResponseValue) (h : is_followed s (kept_of s earlier) (line.Exchange a c r) ≡ true) (right : has_right_response (world_of s earlier) (line.Exchange a c r) ≡ true) where
+module _ (agrees : KeptAgrees) (s : Script) (rules : keeps_rules s ≡ true) (served : has_utf8_names s ≡ true) (earlier : List Line) (followed : are_followed s earlier ≡ true) (told : are_told s earlier ≡ true) (t : Edited s (world_of s earlier) (kept_of s earlier)) (a : ℕ) (c : CommandValue) (r : ResponseValue) (h : is_followed s (kept_of s earlier) (line.Exchange a c r) ≡ true) (right : has_right_response (world_of s earlier) (line.Exchange a c r) ≡ true) where
   abbrev here : Kept
   here = kept_of s earlier
 
@@ -192,7 +192,7 @@ module _ (agrees : KeptAgrees) (s : Script) (rules : keeps_rules s ≡ true) (se
 
 -- ---- every line
 
-module _ (agrees : KeptAgrees) (looks : KeptLooksBack) (s : Script) (rules : keeps_rules s ≡ true) (served : serves s ≡ true) (earlier : List Line) (followed : are_followed s earlier ≡ true) (told : are_told s earlier ≡ true) (t : Edited s (world_of s earlier) (kept_of s earlier)) (before : AttemptsCurrent (kept_of s earlier)) where
+module _ (agrees : KeptAgrees) (looks : KeptLooksBack) (s : Script) (rules : keeps_rules s ≡ true) (served : has_utf8_names s ≡ true) (earlier : List Line) (followed : are_followed s earlier ≡ true) (told : are_told s earlier ≡ true) (t : Edited s (world_of s earlier) (kept_of s earlier)) (before : AttemptsCurrent (kept_of s earlier)) where
   abbrev was : Kept
   was = kept_of s earlier
 
@@ -211,7 +211,7 @@ module _ (agrees : KeptAgrees) (looks : KeptLooksBack) (s : Script) (rules : kee
   every_line (line.Refused f n) h q = line_current looks s earlier before (line.Refused f n) refl refl (λ o z. z)
   every_line (line.Answered a n given) h q = line_current looks s earlier before (line.Answered a n given) refl refl (λ o z. z)
 
-pub attempts_current : KeptAgrees → KeptLooksBack → PlansForCard → (s : Script) (lines : List Line) → keeps_rules s ≡ true → serves s ≡ true → are_followed s lines ≡ true → are_told s lines ≡ true → AttemptsCurrent (kept_of s lines)
+pub attempts_current : KeptAgrees → KeptLooksBack → PlansForCard → (s : Script) (lines : List Line) → keeps_rules s ≡ true → has_utf8_names s ≡ true → are_followed s lines ≡ true → are_told s lines ≡ true → AttemptsCurrent (kept_of s lines)
 attempts_current agrees looks plans s [] rules served followed told = λ i b a here at unmoved lives. absurd (let n = first_begun (actor_count s + 1) i in let q : Some b ≡ None = sym here ∙ n in cc)
 attempts_current agrees looks plans s (l ∷ earlier) rules served followed told =
     let p = and_parts (are_followed s earlier) (is_followed s (kept_of s earlier) l) followed in

@@ -20,7 +20,7 @@ use Rattle.rules.specs.After.{edit_of, editing_lost, editing_sent, begun_exchang
 use Rattle.rules.specs.Laws.{KeptAgrees, PlansForCard}
 use Rattle.rules.specs.Rules.{has_right_response}
 use Rattle.rules.specs.State.{world_of}
-use Rattle.performed.specs.Served.{serves}
+use Rattle.performed.specs.Names.{has_utf8_names}
 use Rattle.performed.specs.Followed.{is_followed, are_followed}
 use Rattle.performed.specs.Told.{is_told, are_told}
 use Rattle.performed.proofs.CalmAnswers.{told_response}
@@ -50,7 +50,7 @@ lost_decided (Some (f, d)) selected event c e = by_update (is_update_ins c.ins)
     by_update true = by_main (is_at selected (family_path f 0))
     by_update false = refl
 
-module _ (agrees : KeptAgrees) (s : Script) (rules : keeps_rules s ≡ true) (served : serves s ≡ true) (earlier : List Line) (followed : are_followed s earlier ≡ true) (told : are_told s earlier ≡ true) (t : Edited s (world_of s earlier) (kept_of s earlier)) (before : DecidedSince s (kept_of s earlier)) where
+module _ (agrees : KeptAgrees) (s : Script) (rules : keeps_rules s ≡ true) (served : has_utf8_names s ≡ true) (earlier : List Line) (followed : are_followed s earlier ≡ true) (told : are_told s earlier ≡ true) (t : Edited s (world_of s earlier) (kept_of s earlier)) (before : DecidedSince s (kept_of s earlier)) where
   abbrev k : Kept
   k = kept_of s earlier
 
@@ -94,7 +94,7 @@ module _ (agrees : KeptAgrees) (s : Script) (rules : keeps_rules s ≡ true) (se
       old_since i b old f e here (ap (λ (y : Begun). y.index) is) (ap (λ (y : Begun). y.epoch) is)
       (ap (λ (y : Begun). y.editing.decided) is ∙ lost_decided (edit_of (operation_now s a k.jobs)) k.selected (k.history.events + 1) c (editing_sent c k.chain (near s l k old).editing) ∙ sent_decided c k.chain (near s l k old).editing)
 
-pub decided_since : KeptAgrees → PlansForCard → (s : Script) (lines : List Line) → keeps_rules s ≡ true → serves s ≡ true → are_followed s lines ≡ true → are_told s lines ≡ true → DecidedSince s (kept_of s lines)
+pub decided_since : KeptAgrees → PlansForCard → (s : Script) (lines : List Line) → keeps_rules s ≡ true → has_utf8_names s ≡ true → are_followed s lines ≡ true → are_told s lines ≡ true → DecidedSince s (kept_of s lines)
 decided_since agrees plans s [] rules served followed told i b f e here op d = let n = first_begun (actor_count s + 1) i in let q : Some b ≡ None = sym here ∙ n in absurd (cc)
 decided_since agrees plans s (l ∷ earlier) rules served followed told i b f e here op d =
     let p = and_parts (are_followed s earlier) (is_followed s (kept_of s earlier) l) followed in

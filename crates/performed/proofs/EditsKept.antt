@@ -34,7 +34,7 @@ use Rattle.rules.specs.Due.{due_command, due}
 use Rattle.rules.specs.Rules.{is_turn_of}
 use Rattle.rules.specs.Performed.{is_sent}
 use Rattle.rules.specs.State.{world_of}
-use Rattle.performed.specs.Served.{serves}
+use Rattle.performed.specs.Names.{has_utf8_names}
 use Rattle.performed.specs.Followed.{is_followed, are_followed}
 use Rattle.performed.specs.Told.{are_told}
 use Rattle.performed.proofs.CalmKinds.{Sends}
@@ -115,7 +115,7 @@ fresh_of s w k t = by_phase t.phase
     by_phase (selecting stage chain at q) = ap is_over stage
     by_phase (ready stage chain selected) = ap is_over stage
 
-module _ (agrees : KeptAgrees) (s : Script) (rules : keeps_rules s ≡ true) (served : serves s ≡ true) (earlier : List Line) (followed : are_followed s earlier ≡ true) (told : are_told s earlier ≡ true) (t : Edited s (world_of s earlier) (kept_of s earlier)) where
+module _ (agrees : KeptAgrees) (s : Script) (rules : keeps_rules s ≡ true) (served : has_utf8_names s ≡ true) (earlier : List Line) (followed : are_followed s earlier ≡ true) (told : are_told s earlier ≡ true) (t : Edited s (world_of s earlier) (kept_of s earlier)) where
   abbrev k : Kept
   k = kept_of s earlier
 

@@ -38,7 +38,7 @@ use Rattle.rules.specs.Due.{due}
 use Rattle.rules.specs.Performed.{is_sent}
 use Rattle.rules.specs.Rules.{is_turn_of, has_right_response}
 use Rattle.performed.proofs.EditsScript.{Edits, sets, clears, edits_by}
-use Rattle.performed.specs.Served.{serves}
+use Rattle.performed.specs.Names.{has_utf8_names}
 use Rattle.performed.specs.Followed.{is_followed, are_followed}
 use Rattle.performed.specs.Told.{is_told, are_told}
 use Rattle.performed.proofs.CalmBehind.{actor_is}
@@ -118,7 +118,7 @@ plans_none k a b o f e h d = ap (λ (x : Decision). x.attempt) (decides_edit k a
 
 -- ---- a line
 
-module _ (agrees : KeptAgrees) (s : Script) (rules : keeps_rules s ≡ true) (served : serves s ≡ true) (earlier : List Line) (followed : are_followed s earlier ≡ true) (told : are_told s earlier ≡ true) (t : Edited s (world_of s earlier) (kept_of s earlier)) (before : TurnOver s (kept_of s earlier)) where
+module _ (agrees : KeptAgrees) (s : Script) (rules : keeps_rules s ≡ true) (served : has_utf8_names s ≡ true) (earlier : List Line) (followed : are_followed s earlier ≡ true) (told : are_told s earlier ≡ true) (t : Edited s (world_of s earlier) (kept_of s earlier)) (before : TurnOver s (kept_of s earlier)) where
   abbrev k : Kept
   k = kept_of s earlier
 
@@ -253,7 +253,7 @@ module _ (agrees : KeptAgrees) (s : Script) (rules : keeps_rules s ≡ true) (se
   line_over (line.Answered a n given) h q = λ i b f e actor some here op lives. never some
 
 -- the turn of an edit that publishes has nothing of it to send
-pub turn_over : KeptAgrees → PlansForCard → (s : Script) (lines : List Line) → keeps_rules s ≡ true → serves s ≡ true → are_followed s lines ≡ true → are_told s lines ≡ true → TurnOver s (kept_of s lines)
+pub turn_over : KeptAgrees → PlansForCard → (s : Script) (lines : List Line) → keeps_rules s ≡ true → has_utf8_names s ≡ true → are_followed s lines ≡ true → are_told s lines ≡ true → TurnOver s (kept_of s lines)
 turn_over agrees plans s [] rules served followed told = λ i b f e actor some here op lives. never some
 turn_over agrees plans s (l ∷ earlier) rules served followed told =
     let p = and_parts (are_followed s earlier) (is_followed s (kept_of s earlier) l) followed in

@@ -33,7 +33,7 @@ use Rattle.rules.specs.After.{facts_of, is_raw, is_raw_line, jobs_beside, refuse
 use Rattle.rules.specs.Laws.{KeptAgrees, KeptLooksBack, PlansForCard}
 use Rattle.rules.specs.Rules.{EditTurn, book_in, is_book_edited, is_book_kept, is_book_right, is_outside_raw, is_sent_right, is_update_right, has_right_edit, has_right_response, turn_operation}
 use Rattle.rules.specs.State.{content_on, shown_in, shown_on, world_of}
-use Rattle.performed.specs.Served.{serves}
+use Rattle.performed.specs.Names.{has_utf8_names}
 use Rattle.performed.specs.Followed.{is_followed, are_followed}
 use Rattle.performed.specs.Told.{are_told}
 use Rattle.performed.proofs.CalmLines.{turn_is}
@@ -134,7 +134,7 @@ spoils_none t file selected at moves known (path ∷ paths) h =
 
 -- ---- an UPDATE of an edit that was done
 
-module _ (agrees : KeptAgrees) (looks : KeptLooksBack) (plans : PlansForCard) (s : Script) (rules : keeps_rules s ≡ true) (served : serves s ≡ true) (earlier : List Line) (followed : are_followed s earlier ≡ true) (told : are_told s earlier ≡ true) where
+module _ (agrees : KeptAgrees) (looks : KeptLooksBack) (plans : PlansForCard) (s : Script) (rules : keeps_rules s ≡ true) (served : has_utf8_names s ≡ true) (earlier : List Line) (followed : are_followed s earlier ≡ true) (told : are_told s earlier ≡ true) where
   abbrev k : Kept
   k = kept_of s earlier
 

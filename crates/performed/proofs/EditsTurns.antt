@@ -26,7 +26,7 @@ use Rattle.rules.specs.After.{edit_of, begun_with, fresh_begun, decision_of_begu
 use Rattle.rules.specs.Agreement.{edit_at}
 use Rattle.rules.specs.Laws.{KeptAgrees, PlansForCard}
 use Rattle.rules.specs.State.{world_of}
-use Rattle.performed.specs.Served.{serves}
+use Rattle.performed.specs.Names.{has_utf8_names}
 use Rattle.performed.specs.Followed.{are_followed}
 use Rattle.performed.specs.Told.{are_told}
 use Rattle.performed.proofs.CalmCards.{lives_of}
@@ -44,7 +44,7 @@ use Rattle.performed.proofs.EditsLines.{decides_edit, done_unfresh, done_unrefus
 use Rattle.performed.proofs.EditsState.{unplanned, writing, refused, finished, past}
 use Rattle.performed.proofs.EpochPast.{past_stays}
 
-module _ (agrees : KeptAgrees) (plans : PlansForCard) (s : Script) (rules : keeps_rules s ≡ true) (served : serves s ≡ true) (earlier : List Line) (followed : are_followed s earlier ≡ true) (told : are_told s earlier ≡ true) (t : Edited s (world_of s earlier) (kept_of s earlier)) where
+module _ (agrees : KeptAgrees) (plans : PlansForCard) (s : Script) (rules : keeps_rules s ≡ true) (served : has_utf8_names s ≡ true) (earlier : List Line) (followed : are_followed s earlier ≡ true) (told : are_told s earlier ≡ true) (t : Edited s (world_of s earlier) (kept_of s earlier)) where
   abbrev k : Kept
   k = kept_of s earlier
 

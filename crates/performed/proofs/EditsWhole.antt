@@ -31,7 +31,7 @@ use Rattle.rules.specs.Due.{due_command, due}
 use Rattle.rules.specs.Rules.{is_turn_of}
 use Rattle.rules.specs.Performed.{ends_turn, is_published, is_refusal_told}
 use Rattle.rules.specs.State.{world_of}
-use Rattle.performed.specs.Served.{serves}
+use Rattle.performed.specs.Names.{has_utf8_names}
 use Rattle.performed.specs.Followed.{is_given_or_refused, is_tried, is_followed, are_followed}
 use Rattle.performed.specs.Told.{is_told, are_told}
 use Rattle.performed.proofs.CalmLines.{sends_of}
@@ -63,7 +63,7 @@ use Rattle.performed.proofs.EditsTurns.{mark_edit, front_edit}
 use Rattle.performed.proofs.EditsTurns as turns
 use Rattle.performed.proofs.EditsKept.{Wrote, How, still, by_raw, by_edit, how, raw_edits, other_edit, idle_edit, own, own_actor, own_book, own_does, own_card, current}
 
-module _ (agrees : KeptAgrees) (plans : PlansForCard) (s : Script) (rules : keeps_rules s ≡ true) (served : serves s ≡ true) (earlier : List Line) (followed : are_followed s earlier ≡ true) (told : are_told s earlier ≡ true) (t : Edited s (world_of s earlier) (kept_of s earlier)) where
+module _ (agrees : KeptAgrees) (plans : PlansForCard) (s : Script) (rules : keeps_rules s ≡ true) (served : has_utf8_names s ≡ true) (earlier : List Line) (followed : are_followed s earlier ≡ true) (told : are_told s earlier ≡ true) (t : Edited s (world_of s earlier) (kept_of s earlier)) where
   abbrev k : Kept
   k = kept_of s earlier
 
@@ -347,7 +347,7 @@ none_first : (s : Script) (i : ℕ) (b : Begun) → begun_of i (kept_of s []).jo
 none_first s i b h = let n = first_begun (actor_count s + 1) i in let q : Some b ≡ None = sym h ∙ n in cc
 
 -- behind lines that are due and show what a card gave, each edit is as far as its plan says
-pub edited_of : KeptAgrees → PlansForCard → (s : Script) (lines : List Line) → keeps_rules s ≡ true → serves s ≡ true → are_followed s lines ≡ true → are_told s lines ≡ true → Edited s (world_of s lines) (kept_of s lines)
+pub edited_of : KeptAgrees → PlansForCard → (s : Script) (lines : List Line) → keeps_rules s ≡ true → has_utf8_names s ≡ true → are_followed s lines ≡ true → are_told s lines ≡ true → Edited s (world_of s lines) (kept_of s lines)
 edited_of agrees plans s [] rules served followed told = record {
   edits = λ i b f e h op. absurd (none_first s i b h);
   active = λ work goes. absurd (true≢false goes);

@@ -21,7 +21,7 @@ use Rattle.rules.specs.Kept.{first_job, operations_of, operation_at, job_of, beg
 use Rattle.rules.specs.After.{handles_given, facts_of, kept_after, kept_of}
 use Rattle.rules.specs.Due.{due}
 use Rattle.rules.specs.Rules.{is_turn_of, is_begun_at}
-use Rattle.performed.specs.Served.{serves}
+use Rattle.performed.specs.Names.{has_utf8_names}
 use Rattle.performed.specs.Followed.{is_followed, are_followed, is_given_or_refused}
 use Rattle.performed.proofs.Handles.{new_handle}
 use Rattle.performed.proofs.Lists.{all_added, all_mapped, all_still}
@@ -194,7 +194,7 @@ will_close_of s rules (l ∷ earlier) h =
     let q = and_parts (are_followed s earlier) (is_followed s (kept_of s earlier) l) h in
     step s (kept_of s earlier) (will_close_of s rules earlier q.0) rules (next_of s earlier q.0) (sound s earlier q.0) l q.1
 
-pub free_of : (s : Script) → keeps_rules s ≡ true → serves s ≡ true → (lines : List Line) → are_followed s lines ≡ true → (a i handle n : ℕ) (aid : List ℕ) → is_followed s (kept_of s lines) (line.Answered a i (answer.Opened n)) ≡ true → operation_at s a i ≡ Some (operation.OpenChannel handle aid) → handle_of a handle (kept_of s lines).handles ≡ None
+pub free_of : (s : Script) → keeps_rules s ≡ true → has_utf8_names s ≡ true → (lines : List Line) → are_followed s lines ≡ true → (a i handle n : ℕ) (aid : List ℕ) → is_followed s (kept_of s lines) (line.Answered a i (answer.Opened n)) ≡ true → operation_at s a i ≡ Some (operation.OpenChannel handle aid) → handle_of a handle (kept_of s lines).handles ≡ None
 free_of s rules served lines followed a i handle n aid h there =
     let k : Kept = kept_of s lines in
     free_step s k a i (next_answered s k a i (answer.Opened n) h (next_of s lines followed a) (sound s lines followed a)) handle aid there (will_close_of s rules lines followed)

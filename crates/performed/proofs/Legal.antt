@@ -20,7 +20,7 @@ use Rattle.book_plans.specs.Law.{PlansMakeEdits}
 use Rattle.rules.specs.Legal.{Tests, all_pass, mark_tests, other_tests, line_tests, end_tests, changed_in, is_legal_line, are_legal_lines, is_legal_end}
 use Rattle.rules.specs.Performed.{ends_turn, does_due, performed_of}
 use Rattle.rules.specs.Rules.{has_right_response, has_right_edit, are_channels_right, is_rest_right, has_right_verify, has_right_place}
-use Rattle.performed.specs.Served.{serves}
+use Rattle.performed.specs.Names.{has_utf8_names}
 use Rattle.performed.specs.Followed.{is_followed, are_followed}
 use Rattle.performed.specs.Told.{is_told, are_told}
 use Rattle.performed.specs.Placed.{is_turn_allowed, is_placed, are_placed}
@@ -81,7 +81,7 @@ record Others (s : Script) : Type 0 where
 pass : (t : Tests) → t.responses ≡ true → t.snapshots ≡ true → t.edits ≡ true → t.channels ≡ true → t.rest ≡ true → t.answers ≡ true → t.verifications ≡ true → t.turns ≡ true → t.ending ≡ true → t.faults ≡ true → all_pass t ≡ true
 pass t r1 r2 r3 r4 r5 r6 r7 r8 r9 r10 = rw (r1, r2, r3, r4, r5, r6, r7, r8, r9, r10) refl
 
-module _ (moves : MarksMove) (shows : ShowsCard) (looks : KeptLooksBack) (s : Script) (m : Mode) (rules : keeps_rules s ≡ true) (v : serves s ≡ true) (others : Others s) where
+module _ (moves : MarksMove) (shows : ShowsCard) (looks : KeptLooksBack) (s : Script) (m : Mode) (rules : keeps_rules s ≡ true) (v : has_utf8_names s ≡ true) (others : Others s) where
   -- a turn that ends
   module _ (lines : List Line) (f : are_followed s lines ≡ true) (t : are_told s lines ≡ true) (e : ends_turn (due s (kept_of s lines)) ≡ true) where
     rest_known : is_rest_right (known s lines) (changed_in s lines) ≡ true
@@ -140,7 +140,7 @@ module _ (moves : MarksMove) (shows : ShowsCard) (looks : KeptLooksBack) (s : Sc
 
 -- ---- the laws
 
-others : KeptAgrees → KeptLooksBack → PlansForCard → PlansMakeEdits → ShowsCard → (s : Script) → keeps_rules s ≡ true → serves s ≡ true → Others s
+others : KeptAgrees → KeptLooksBack → PlansForCard → PlansMakeEdits → ShowsCard → (s : Script) → keeps_rules s ≡ true → has_utf8_names s ≡ true → Others s
 others agrees looks plans makes shows s rules v = record {
   edits = λ earlier l f t. edits_right agrees plans makes s earlier l rules v f t;
   verifications = λ earlier l f t. verify_right s earlier l rules v f t;

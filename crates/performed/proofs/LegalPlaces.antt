@@ -33,7 +33,7 @@ use Rattle.rules.specs.Due.{due, published_by, kept_text}
 use Rattle.rules.specs.Laws.{ShowsCard, KeptLooksBack}
 use Rattle.rules.specs.Performed.{ends_turn, begins_as, is_published}
 use Rattle.rules.specs.Rules.{is_turn_of, is_begun_at, has_right_answer, has_right_fault, has_right_response, is_snapshot_right, has_right_snapshot, is_actor_right, is_bare_turn_right, is_turn_done, is_turn_right, is_mark_right, is_begin_right, has_right_place}
-use Rattle.performed.specs.Served.{serves}
+use Rattle.performed.specs.Names.{has_utf8_names}
 use Rattle.performed.specs.Followed.{is_given_or_refused, is_followed, are_followed}
 use Rattle.performed.specs.Told.{is_told, are_told}
 use Rattle.performed.specs.Placed.{is_turn_allowed, is_placed}
@@ -58,7 +58,7 @@ exchanged_bare op job held facts refused t None e = rw e refl
 exchanged_bare op job held facts refused t (Some f) e = rw e refl
 
 -- a turn without lines waits, or finds nothing left
-bare_idle : MarksMove → (s : Script) (lines : List Line) → keeps_rules s ≡ true → serves s ≡ true → are_followed s lines ≡ true → are_told s lines ≡ true → ends_turn (due s (kept_of s lines)) ≡ true → (kept_of s lines).turn.bare ≡ true → (kept_of s lines).turn.idle ≡ true
+bare_idle : MarksMove → (s : Script) (lines : List Line) → keeps_rules s ≡ true → has_utf8_names s ≡ true → are_followed s lines ≡ true → are_told s lines ≡ true → ends_turn (due s (kept_of s lines)) ≡ true → (kept_of s lines).turn.bare ≡ true → (kept_of s lines).turn.idle ≡ true
 bare_idle moves s [] rules v f t e b = absurd (true≢false (sym b))
 bare_idle moves s (line.Turn a ∷ earlier) rules v f t e b =
     idle_or (is_idle s (kept_of s earlier) a) (ends_turn (due s (kept_of s (line.Turn a ∷ earlier))))
@@ -82,7 +82,7 @@ by_actor : (a x : Bool) → x ≡ true → elim a [ true ↦ true | false ↦ x 
 by_actor true x h = refl
 by_actor false x h = h
 
-pub turn_right : MarksMove → (s : Script) (m : Mode) (lines : List Line) → keeps_rules s ≡ true → serves s ≡ true → are_followed s lines ≡ true → are_told s lines ≡ true → ends_turn (due s (kept_of s lines)) ≡ true → is_turn_allowed m (kept_of s lines).turn ≡ true → is_turn_right m (world_of s lines) (kept_of s lines) ≡ true
+pub turn_right : MarksMove → (s : Script) (m : Mode) (lines : List Line) → keeps_rules s ≡ true → has_utf8_names s ≡ true → are_followed s lines ≡ true → are_told s lines ≡ true → ends_turn (due s (kept_of s lines)) ≡ true → is_turn_allowed m (kept_of s lines).turn ≡ true → is_turn_right m (world_of s lines) (kept_of s lines) ≡ true
 turn_right moves s m lines rules v f t e allowed =
     let k : Kept = kept_of s lines in
     let w : World = world_of s lines in
@@ -99,7 +99,7 @@ one_family : (k : Kept) (family : Option ℕ) (f : ℕ) → is_family_or_none fa
 one_family k None f h e = absurd (cc)
 one_family k (Some g) f h e = published_in (is_none k.turn.published && all_current k.files (family_paths g)) g f h e
 
-snapshot_of : ShowsCard → (s : Script) (lines : List Line) → keeps_rules s ≡ true → serves s ≡ true → are_followed s lines ≡ true → are_told s lines ≡ true → (number f e n : ℕ) (text : List ℕ) (d : Due) → due s (kept_of s lines) ≡ d → is_published (kept_of s lines) number f e n text d ≡ true → is_snapshot_right (world_of s lines) (kept_of s lines) number f e n text ≡ true
+snapshot_of : ShowsCard → (s : Script) (lines : List Line) → keeps_rules s ≡ true → has_utf8_names s ≡ true → are_followed s lines ≡ true → are_told s lines ≡ true → (number f e n : ℕ) (text : List ℕ) (d : Due) → due s (kept_of s lines) ≡ d → is_published (kept_of s lines) number f e n text d ≡ true → is_snapshot_right (world_of s lines) (kept_of s lines) number f e n text ≡ true
 snapshot_of shows s lines rules v followed told number f e n text (publish g) is h =
     let k : Kept = kept_of s lines in
     let w : World = world_of s lines in
@@ -143,7 +143,7 @@ begin_placed s k a i h =
 abbrev pub known : Script → List Line → State
 known s lines = record { world = world_of s lines; kept = kept_of s lines; boards = boards_of s lines; texts = texts_of lines }
 
-module _ (moves : MarksMove) (shows : ShowsCard) (looks : KeptLooksBack) (s : Script) (rules : keeps_rules s ≡ true) (v : serves s ≡ true) (m : Mode) (earlier : List Line) (followed : are_followed s earlier ≡ true) (told : are_told s earlier ≡ true) where
+module _ (moves : MarksMove) (shows : ShowsCard) (looks : KeptLooksBack) (s : Script) (rules : keeps_rules s ≡ true) (v : has_utf8_names s ≡ true) (m : Mode) (earlier : List Line) (followed : are_followed s earlier ≡ true) (told : are_told s earlier ≡ true) where
   mark_right : (a : ℕ) → is_followed s (kept_of s earlier) (line.Turn a) ≡ true → is_placed s m (kept_of s earlier) (line.Turn a) ≡ true → is_mark_right s m (world_of s earlier) (kept_of s earlier) a ≡ true
   mark_right a h p =
       let k : Kept = kept_of s earlier in

@@ -40,7 +40,7 @@ use Rattle.rules.specs.Editing.{attempt_of}
 use Rattle.rules.specs.Due.{due, reset_by_stage}
 use Rattle.rules.specs.Performed.{begins_as, is_sent}
 use Rattle.rules.specs.Rules.{is_turn_of}
-use Rattle.performed.specs.Served.{is_served, serves}
+use Rattle.performed.specs.Names.{has_utf8_name, has_utf8_names}
 use Rattle.performed.specs.Followed.{is_followed, are_followed}
 use Rattle.adn.specs.declared.edit.Edit.{Edit}
 use Rattle.rules.specs.Editing.{family_edit}
@@ -106,7 +106,7 @@ module _ (k : Kept) where
   edit_calm : (actor : ℕ) (b : Begun) (o : Option (ℕ × Edit)) → is_calm_work (work_of_edit k actor b o).work ≡ true
   edit_calm actor b o = work_passes (λ (w : Work). is_calm_work w ≡ true) (record { writing = refl; reading = λ path. refl; resting = refl; lacking = λ key. refl; refusing = λ refusal. refl }) k actor b o
 
-  work_calm : (actor : ℕ) (b : Begun) (op : Operation) → is_served op ≡ true → is_calm_work (work_of_operation k actor b op).work ≡ true
+  work_calm : (actor : ℕ) (b : Begun) (op : Operation) → has_utf8_name op ≡ true → is_calm_work (work_of_operation k actor b op).work ≡ true
   work_calm actor b (operation.Insert card) served = refl
   work_calm actor b operation.Out served = refl
   work_calm actor b (operation.Arm change) served = refl
@@ -191,7 +191,7 @@ module _ (op : Option Operation) (job : Job) (held : List ℕ) (facts : Facts) (
   exchanged_stage w h g None e = rw e h
   exchanged_stage w h g (Some f) e = rw e (led_calm t.work op (opened_behind held f t.opened) job facts.touch.refresh f w g)
 
-module _ (s : Script) (rules : keeps_rules s ≡ true) (v : serves s ≡ true) (earlier : List Line) (shapes : Shape (kept_of s earlier)) (calm : CalmTurn s (kept_of s earlier)) where
+module _ (s : Script) (rules : keeps_rules s ≡ true) (v : has_utf8_names s ≡ true) (earlier : List Line) (shapes : Shape (kept_of s earlier)) (calm : CalmTurn s (kept_of s earlier)) where
   abbrev k : Kept
   k = kept_of s earlier
 
@@ -259,7 +259,7 @@ module _ (s : Script) (rules : keeps_rules s ≡ true) (v : serves s ≡ true) (
   calm_line (line.Refused f n) h b at = calm_same (line.Refused f n) b refl refl refl at
   calm_line (line.Answered a i given) h b at = calm_over (line.Answered a i given) b refl refl at
 
-pub turn_calm : (s : Script) (lines : List Line) → keeps_rules s ≡ true → serves s ≡ true → are_followed s lines ≡ true → CalmTurn s (kept_of s lines)
+pub turn_calm : (s : Script) (lines : List Line) → keeps_rules s ≡ true → has_utf8_names s ≡ true → are_followed s lines ≡ true → CalmTurn s (kept_of s lines)
 turn_calm s [] rules v f = λ b at. absurd (cc)
 turn_calm s (l ∷ earlier) rules v f =
     let p = and_parts (are_followed s earlier) (is_followed s (kept_of s earlier) l) f in

@@ -28,7 +28,7 @@ use Rattle.rules.specs.Channels.{held_numbers}
 use Rattle.rules.specs.Standing.{standing_after, is_stale, first_stale}
 use Rattle.rules.specs.Work.{is_starting, is_edit_over, family_of_operation, family_read}
 use Rattle.rules.specs.After.{facts_of, refused_of, family_begun, jobs_beside, fresh_begun, decision_at, family_of_begun, family_at, turn_exchanged, turn_behind, kept_of}
-use Rattle.performed.specs.Served.{is_served, serves}
+use Rattle.performed.specs.Names.{has_utf8_name, has_utf8_names}
 
 -- ---- operations
 
@@ -52,10 +52,10 @@ module _ (test : Operation → Bool) (s : Script) (all : list_all (list_all test
 
 -- the operation that there may be is served, and has its form
 pub record IsPlain (o : Option Operation) : Type 0 where
-  pub served : (op : Operation) → o ≡ Some op → is_served op ≡ true
+  pub served : (op : Operation) → o ≡ Some op → has_utf8_name op ≡ true
   pub formed : (op : Operation) → o ≡ Some op → has_form op ≡ true
 
-all_served : (s : Script) → serves s ≡ true → list_all (list_all is_served) s.actors ≡ true
+all_served : (s : Script) → has_utf8_names s ≡ true → list_all (list_all has_utf8_name) s.actors ≡ true
 all_served s v = v
 
 have_form : (cards changes : ℕ) (actors : List (List Operation)) → list_all (is_actor cards changes) actors ≡ true → list_all (list_all has_form) actors ≡ true
@@ -82,13 +82,13 @@ all_formed s h =
     let each = (and_parts (is_between 1 8 (length s.actors) && nat_le (operation_count s.actors) 1000) (list_all (is_actor (length s.cards) (length s.changes)) s.actors) q4.1).1 in
     have_form (length s.cards) (length s.changes) s.actors each
 
-module _ (s : Script) (rules : keeps_rules s ≡ true) (v : serves s ≡ true) where
+module _ (s : Script) (rules : keeps_rules s ≡ true) (v : has_utf8_names s ≡ true) where
   pub plain_at : (actor i : ℕ) → IsPlain (operation_at s actor i)
-  plain_at actor i = record { served = at_passes is_served s (all_served s v) actor i; formed = at_passes has_form s (all_formed s rules) actor i }
+  plain_at actor i = record { served = at_passes has_utf8_name s (all_served s v) actor i; formed = at_passes has_form s (all_formed s rules) actor i }
 
   pub plain_now : (actor : ℕ) (jobs : List Job) → IsPlain (operation_now s actor jobs)
   plain_now actor jobs = record {
-    served = begun_passes is_served s (all_served s v) actor (begun_of actor jobs);
+    served = begun_passes has_utf8_name s (all_served s v) actor (begun_of actor jobs);
     formed = begun_passes has_form s (all_formed s rules) actor (begun_of actor jobs);
   }
 
@@ -112,7 +112,7 @@ if_none : (c : Bool) (o : Option ℕ) → is_family_or_none o ≡ true → is_fa
 if_none true o h = refl
 if_none false o h = h
 
-family_of_op : (b : Begun) (op : Operation) → is_served op ≡ true → has_form op ≡ true → is_family_or_none (family_of_operation b op) ≡ true
+family_of_op : (b : Begun) (op : Operation) → has_utf8_name op ≡ true → has_form op ≡ true → is_family_or_none (family_of_operation b op) ≡ true
 family_of_op b (operation.Insert card) served form = refl
 family_of_op b operation.Out served form = refl
 family_of_op b (operation.Arm change) served form = refl
@@ -162,7 +162,7 @@ found_known (x ∷ xs) h =
     let q = and_parts (is_known x) (list_all is_known xs) h in
     by_stale x (find is_stale xs) q.0 (found_known xs q.1) (is_stale x)
 
-module _ (s : Script) (rules : keeps_rules s ≡ true) (v : serves s ≡ true) (k : Kept) (known : list_all is_known k.standings ≡ true) where
+module _ (s : Script) (rules : keeps_rules s ≡ true) (v : has_utf8_names s ≡ true) (k : Kept) (known : list_all is_known k.standings ≡ true) where
   read_known : is_family_or_none (family_read k) ≡ true
   read_known = if_none (k.history.owes_reset || not k.history.living || is_starting k || is_some k.owed || is_some k.history.announced) (first_stale k.standings) (found_known k.standings known)
 
@@ -189,7 +189,7 @@ module _ (s : Script) (rules : keeps_rules s ≡ true) (v : serves s ≡ true) (
   family_line (line.Answered a i given) facts refused work jobs h = refl
 
 -- what a turn may publish is a family
-pub family_known : (s : Script) (lines : List Line) → keeps_rules s ≡ true → serves s ≡ true → is_family_or_none (kept_of s lines).turn.family ≡ true
+pub family_known : (s : Script) (lines : List Line) → keeps_rules s ≡ true → has_utf8_names s ≡ true → is_family_or_none (kept_of s lines).turn.family ≡ true
 family_known s [] rules v = refl
 family_known s (l ∷ earlier) rules v =
     let k : Kept = kept_of s earlier in

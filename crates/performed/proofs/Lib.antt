@@ -2,9 +2,7 @@ pub mod TurnsSays
 pub mod Lists
 pub mod Handles
 pub mod TurnsJobs
-pub mod NarrowFiles
 pub mod EditsAttempt
-pub mod ShortPlans
 pub mod Plain
 pub mod PlainJobs
 pub mod TurnsKept

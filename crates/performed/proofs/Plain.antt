@@ -41,31 +41,31 @@ use Rattle.performed.proofs.TurnsJobs.{Before, before, behind_job, first_jobs, i
 use Rattle.performed.proofs.TurnsSays.{BeginsNow, begins_now}
 use Rattle.performed.proofs.Handles.{given_good, Opens, opens}
 use Rattle.performed.proofs.Lists.{all_mapped}
-use Rattle.performed.specs.Served.{is_served, serves}
+use Rattle.performed.specs.Names.{has_utf8_name, has_utf8_names}
 use Rattle.performed.specs.Followed.{are_followed, is_followed, is_given_or_refused}
 use Rattle.performed.specs.Laws.{is_channel, DropsAtMost}
 
--- ---- the operations of a script that is served
+-- ---- the operations of a script
 
 abbrev pub ServesAt : Option Operation → Type 0
 ServesAt None = Unit {0}
-ServesAt (Some op) = is_served op ≡ true
+ServesAt (Some op) = has_utf8_name op ≡ true
 
-served_in : (ops : List Operation) (i : ℕ) → list_all is_served ops ≡ true → ServesAt (slice_get ops i)
+served_in : (ops : List Operation) (i : ℕ) → list_all has_utf8_name ops ≡ true → ServesAt (slice_get ops i)
 served_in [] i h = tt
-served_in (op ∷ ops) zero h = (and_parts (is_served op) (list_all is_served ops) h).0
-served_in (op ∷ ops) (suc i) h = served_in ops i (and_parts (is_served op) (list_all is_served ops) h).1
+served_in (op ∷ ops) zero h = (and_parts (has_utf8_name op) (list_all has_utf8_name ops) h).0
+served_in (op ∷ ops) (suc i) h = served_in ops i (and_parts (has_utf8_name op) (list_all has_utf8_name ops) h).1
 
-served_actor : (actors : List (List Operation)) (a i : ℕ) → list_all (list_all is_served) actors ≡ true → ServesAt (slice_get (unwrap_or (slice_get actors a) []) i)
+served_actor : (actors : List (List Operation)) (a i : ℕ) → list_all (list_all has_utf8_name) actors ≡ true → ServesAt (slice_get (unwrap_or (slice_get actors a) []) i)
 served_actor [] a i h = tt
-served_actor (ops ∷ actors) zero i h = served_in ops i (and_parts (list_all is_served ops) (list_all (list_all is_served) actors) h).0
-served_actor (ops ∷ actors) (suc a) i h = served_actor actors a i (and_parts (list_all is_served ops) (list_all (list_all is_served) actors) h).1
+served_actor (ops ∷ actors) zero i h = served_in ops i (and_parts (list_all has_utf8_name ops) (list_all (list_all has_utf8_name) actors) h).0
+served_actor (ops ∷ actors) (suc a) i h = served_actor actors a i (and_parts (list_all has_utf8_name ops) (list_all (list_all has_utf8_name) actors) h).1
 
-pub served_at : (s : Script) (a i : ℕ) → serves s ≡ true → ServesAt (operation_at s a i)
+pub served_at : (s : Script) (a i : ℕ) → has_utf8_names s ≡ true → ServesAt (operation_at s a i)
 served_at s zero i h = tt
 served_at s (suc a) i h = served_actor s.actors a i h
 
-pub served_now : (s : Script) (a : ℕ) (o : Option Begun) → serves s ≡ true → ServesAt (begun_operation s a o)
+pub served_now : (s : Script) (a : ℕ) (o : Option Begun) → has_utf8_names s ≡ true → ServesAt (begun_operation s a o)
 served_now s a None h = tt
 served_now s a (Some b) h = served_at s a b.index h
 

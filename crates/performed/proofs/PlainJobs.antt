@@ -1,26 +1,21 @@
--- An actor of a script that is served has answered at most 1000 operations, plans updates that fit into commands, and dropped no more notices
--- than there were publications.
-use Rattle.std.proofs.Common.{◌≡◌, ℕ, zero, suc, ◌≤◌, ◌==◌, ◌&&◌, true, List, [], ◌∷◌, length, Option, Some, None, refl, ap, ◌∙◌, arith}
+-- An actor of a script has answered at most 1000 operations, and dropped no more notices than there were publications.
+use Rattle.std.proofs.Common.{◌≡◌, ℕ, zero, suc, ◌≤◌, ◌==◌, ◌&&◌, true, List, [], ◌∷◌, length, Some, refl, arith}
 use Rattle.std.specs.Prelude.{nat_le, slice_get, unwrap_or}
 use Rattle.std.specs.List.{list_all}
 use Rattle.std.proofs.lemmas.Bool.{and_parts, leb-true}
 use Rattle.apdu.specs.Words.{is_between}
-use Rattle.book_plans.specs.Law.{PlansFit}
 use Rattle.script_reader.specs.declared.types.Script.{Script}
 use Rattle.script_reader.specs.declared.types.Operation.{Operation}
 use Rattle.script_reader.specs.Rules.{keeps_rules, cards_keep_rules, changes_keep_rules, actors_keep_rules, schedule_keeps_rules, faults_keep_rules, budget_keeps_rules}
 use Rattle.script_reader.specs.Operations.{operation_count, is_actor}
 use Rattle.report.specs.declared.line.Line.{Line}
-use Rattle.rules.specs.declared.kept.Begun.{Begun}
 use Rattle.rules.specs.declared.kept.Job.{Job}
 use Rattle.rules.specs.declared.kept.Kept.{Kept}
-use Rattle.rules.specs.Kept.{begun_of, first_job, operations_of}
+use Rattle.rules.specs.Kept.{operations_of}
 use Rattle.rules.specs.After.{kept_of}
-use Rattle.performed.specs.Served.{serves}
 use Rattle.performed.specs.Followed.{are_followed}
-use Rattle.performed.specs.Laws.{HasShortPlan, IsShortPlan, IsPlainJob, ArePlainJobs, IsPlain}
+use Rattle.performed.specs.Laws.{IsPlainJob, ArePlainJobs, IsPlain}
 use Rattle.performed.proofs.Plain.{Keeps, KeepsJob, keeps}
-use Rattle.performed.proofs.ShortPlans.{attempts_short}
 
 -- ---- at most 1000 operations
 
@@ -43,29 +38,22 @@ most s h =
     let a6 = and_parts (is_between 1 8 (length s.actors)) (nat_le (operation_count s.actors) 1000) a5.0 in
     leb-true (operation_count s.actors) 1000 a6.1
 
-plain_job : (s : Script) (events n i : ℕ) (x : Job) → keeps_rules s ≡ true → KeepsJob s n i x → HasShortPlan events x.begun → IsPlainJob events n x
-plain_job s events n i x rules h short =
+plain_job : (s : Script) (n i : ℕ) (x : Job) → keeps_rules s ≡ true → KeepsJob s n i x → IsPlainJob n x
+plain_job s n i x rules h =
     let a = h.answered in
     let b = count_of_actor s i in
     let c = most s rules in
-    record { answered = omega arith; updates = short; mailbox = h.mailbox }
+    record { answered = omega arith; mailbox = h.mailbox }
 
-plain_jobs : (events n : ℕ) (jobs : List Job) → ((i : ℕ) (x : Job) → slice_get jobs i ≡ Some x → IsPlainJob events n x) → ArePlainJobs events n jobs
-plain_jobs events n [] h = tt
-plain_jobs events n (job ∷ jobs) h = (h 0 job refl, plain_jobs events n jobs (λ i x e. h (suc i) x e))
+plain_jobs : (n : ℕ) (jobs : List Job) → ((i : ℕ) (x : Job) → slice_get jobs i ≡ Some x → IsPlainJob n x) → ArePlainJobs n jobs
+plain_jobs n [] h = tt
+plain_jobs n (job ∷ jobs) h = (h 0 job refl, plain_jobs n jobs (λ i x e. h (suc i) x e))
 
-job_short : (events i : ℕ) (jobs : List Job) (x : Job) → ((b : Begun) → begun_of i jobs ≡ Some b → IsShortPlan events b.editing.attempt) → slice_get jobs i ≡ Some x → HasShortPlan events x.begun
-job_short events i jobs x each here = by_begun x.begun refl
-  where
-    by_begun : (o : Option Begun) → x.begun ≡ o → HasShortPlan events o
-    by_begun None e = tt
-    by_begun (Some b) e = each b (ap (λ (o : Option Job). (unwrap_or o first_job).begun) here ∙ e)
-
-pub stays_plain : PlansFit → (s : Script) (lines : List Line) → keeps_rules s ≡ true → serves s ≡ true → are_followed s lines ≡ true → IsPlain (kept_of s lines)
-stays_plain law s lines rules serving followed =
+pub stays_plain : (s : Script) (lines : List Line) → keeps_rules s ≡ true → are_followed s lines ≡ true → IsPlain (kept_of s lines)
+stays_plain s lines rules followed =
     let h : Keeps s (kept_of s lines) = keeps s lines followed in
     let k : Kept = kept_of s lines in
     record {
-      jobs = plain_jobs k.history.events k.publications k.jobs (λ i x here. plain_job s k.history.events k.publications i x rules (h.jobs i x here) (job_short k.history.events i k.jobs x (attempts_short law s lines i) here));
+      jobs = plain_jobs k.publications k.jobs (λ i x here. plain_job s k.publications i x rules (h.jobs i x here));
       handles = h.handles;
     }

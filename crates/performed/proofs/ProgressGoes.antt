@@ -33,7 +33,7 @@ use Rattle.rules.specs.Work.{reads_first, status_command, living_handle, sends_r
 use Rattle.apdu.specs.Words.{or_else}
 use Rattle.rules.specs.Due.{with_card, with_ended, is_lost, loaded, outcome_answer, on_handle, raw_on_handle, first_command, first_of_turn, command_by_stage, command_by_chain, reset_by_stage, event_by_stage, event_of, is_resetting, published_by, answer_of_begun, answer_of_actor, due_of_actor, due_by_answer, due_by_publication, due_by_refusal, due_by_event, due_by_reset, due_by_command, due_by_end, due, due_command, is_reset_due, tried_event, due_publication, due_answer}
 use Rattle.rules.specs.Performed.{ends_turn}
-use Rattle.performed.specs.Served.{is_served}
+use Rattle.performed.specs.Names.{has_utf8_name}
 use Rattle.performed.proofs.ProgressSound.{lives_or_ended}
 use Rattle.performed.proofs.EditsDecides.{none_missing}
 use Rattle.performed.proofs.Lists.{all_found}
@@ -287,7 +287,7 @@ module _ (s : Script) (k before : Kept) (actor : ℕ) (b now : Begun) where
   either_given false x y = refl
 
   -- given what becomes of an edit
-  pub operation_goes : (op : Operation) → is_served op ≡ true → RunsAs s k before actor b now op → ((f : ℕ) (e : Edit) → family_edit op ≡ Some (f, e) → ends_turn (due s k) ≡ false) → ends_turn (due s k) ≡ false
+  pub operation_goes : (op : Operation) → has_utf8_name op ≡ true → RunsAs s k before actor b now op → ((f : ℕ) (e : Edit) → family_edit op ≡ Some (f, e) → ends_turn (due s k) ≡ false) → ends_turn (due s k) ≡ false
   operation_goes (operation.Insert card) served r edits = happens_goes s k actor r.turn (world_event.Insert card) r.work
   operation_goes operation.Out served r edits = happens_goes s k actor r.turn world_event.Out r.work
   operation_goes (operation.Arm change) served r edits = happens_goes s k actor r.turn (world_event.Arm change) r.work

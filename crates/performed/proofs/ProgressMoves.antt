@@ -33,7 +33,7 @@ use Rattle.rules.specs.Due.{begin_or_rest, due}
 use Rattle.rules.specs.Laws.{KeptAgrees, PlansForCard}
 use Rattle.rules.specs.Rules.{is_turn_of}
 use Rattle.rules.specs.Performed.{ends_turn, begins_as}
-use Rattle.performed.specs.Served.{serves}
+use Rattle.performed.specs.Names.{has_utf8_names}
 use Rattle.performed.specs.Followed.{are_followed, begins_turn}
 use Rattle.performed.specs.Laws.{MarksMove, BeginsMove}
 use Rattle.performed.proofs.EditsBegun.{near, begun_marks}
@@ -212,18 +212,18 @@ module _ (s : Script) (k : Kept) where
               ∙ ap (λ (d : Decision). with_attempt d.attempt b.editing) decides;
         }
 
-    begun_goes : (a : ℕ) (b : Begun) (o : Option Operation) → begun_of (suc a) k.jobs ≡ Some b → operation_at s (suc a) b.index ≡ o → is_some o ≡ true → serves s ≡ true → lives_or_ended k.history b.epoch b.ended ≡ true → ends_turn (due s (marked (suc a))) ≡ false
+    begun_goes : (a : ℕ) (b : Begun) (o : Option Operation) → begun_of (suc a) k.jobs ≡ Some b → operation_at s (suc a) b.index ≡ o → is_some o ≡ true → has_utf8_names s ≡ true → lives_or_ended k.history b.epoch b.ended ≡ true → ends_turn (due s (marked (suc a))) ≡ false
     begun_goes a b None eb eo there served lives = absurd (true≢false (sym there))
     begun_goes a b (Some op) eb eo there served lives =
         let r : RunsAs s (marked (suc a)) k (suc a) b (marked_begun a b) op = runs a b op eb eo lives in
         operation_goes s (marked (suc a)) k (suc a) b (marked_begun a b) op (served_at s (suc a) b.index op served eo) r
         (λ f e edits. edit_goes s (marked (suc a)) k (suc a) b (marked_begun a b) op r f e edits (ready (suc a) b f e eb (ap edit_of eo ∙ edits)))
 
-    by_begun : (a : ℕ) (o : Option Begun) → begun_of (suc a) k.jobs ≡ o → IsSoundOption s k.history (suc a) o → serves s ≡ true → has_ended s k (suc a) ≡ false → waits_on s k (suc a) ≡ None → ends_turn (due s (marked (suc a))) ≡ false
+    by_begun : (a : ℕ) (o : Option Begun) → begun_of (suc a) k.jobs ≡ o → IsSoundOption s k.history (suc a) o → has_utf8_names s ≡ true → has_ended s k (suc a) ≡ false → waits_on s k (suc a) ≡ None → ends_turn (due s (marked (suc a))) ≡ false
     by_begun a None e p served ended waits = free_goes a e ended waits
     by_begun a (Some b) e p served ended waits = begun_goes a b (operation_at s (suc a) b.index) e refl p.there served p.lives
 
-    actor_moves : (a : ℕ) → IsSoundJob s k.history (suc a) (job_of (suc a) k.jobs) → serves s ≡ true → is_idle s k (suc a) ≡ false → ends_turn (due s (marked (suc a))) ≡ false
+    actor_moves : (a : ℕ) → IsSoundJob s k.history (suc a) (job_of (suc a) k.jobs) → has_utf8_names s ≡ true → is_idle s k (suc a) ≡ false → ends_turn (due s (marked (suc a))) ≡ false
     actor_moves a p served idle =
         let q = or_parts (has_ended s k (suc a)) (is_some (waits_on s k (suc a))) idle in
         by_begun a (begun_of (suc a) k.jobs) refl p served q.0 (no_value (waits_on s k (suc a)) q.1)
@@ -301,7 +301,7 @@ module _ (s : Script) (k : Kept) (a i : ℕ) (t : Starts s k a i) (undone : IsUn
     editing = ap (λ (o : Option Operation). with_attempt (decision_of_begun k a (Some fresh_one) o).attempt no_editing) eo;
   }
 
-  begun_moves : (o : Option Operation) → operation_at s a i ≡ o → is_some o ≡ true → serves s ≡ true → length k.jobs ≡ actor_count s + 1 → ends_turn (due s begun_kept) ≡ false
+  begun_moves : (o : Option Operation) → operation_at s a i ≡ o → is_some o ≡ true → has_utf8_names s ≡ true → length k.jobs ≡ actor_count s + 1 → ends_turn (due s begun_kept) ≡ false
   begun_moves None e there served count = absurd (true≢false (sym there))
   begun_moves (Some op) e there served count =
       let r : RunsAs s begun_kept k a fresh_one now_begun op = fresh_runs op e (begun_there s k a i t count) in

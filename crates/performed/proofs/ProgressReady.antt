@@ -17,7 +17,7 @@ use Rattle.rules.specs.Due.{due}
 use Rattle.rules.specs.Laws.{KeptAgrees, PlansForCard}
 use Rattle.rules.specs.Performed.{ends_turn}
 use Rattle.rules.specs.State.{world_of}
-use Rattle.performed.specs.Served.{serves}
+use Rattle.performed.specs.Names.{has_utf8_names}
 use Rattle.performed.specs.Followed.{are_followed}
 use Rattle.performed.specs.Told.{are_told}
 use Rattle.performed.proofs.CalmSends.{never}
@@ -50,7 +50,7 @@ ended_of : (h : Past) (o ended : Option ℕ) → is_some o ≡ true → lives_or
 ended_of h None ended some lives dead = never some
 ended_of h (Some n) ended some lives dead = sym (ap (λ (b : Bool). b || is_some ended) dead) ∙ lives
 
-module _ (agrees : KeptAgrees) (plans : PlansForCard) (s : Script) (rules : keeps_rules s ≡ true) (served : serves s ≡ true) (lines : List Line) (followed : are_followed s lines ≡ true) (told : are_told s lines ≡ true) (ends : ends_turn (due s (kept_of s lines)) ≡ true) where
+module _ (agrees : KeptAgrees) (plans : PlansForCard) (s : Script) (rules : keeps_rules s ≡ true) (served : has_utf8_names s ≡ true) (lines : List Line) (followed : are_followed s lines ≡ true) (told : are_told s lines ≡ true) (ends : ends_turn (due s (kept_of s lines)) ≡ true) where
   abbrev k : Kept
   k = kept_of s lines
 

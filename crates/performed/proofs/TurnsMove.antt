@@ -13,7 +13,7 @@ use Rattle.rules.specs.Due.{due, due_answer}
 use Rattle.rules.specs.Rules.{is_turn_of}
 use Rattle.rules.specs.Performed.{ends_turn, begins_as, is_refusal_told}
 use Rattle.rules.specs.After.{is_mark, kept_after, kept_of}
-use Rattle.performed.specs.Served.{serves}
+use Rattle.performed.specs.Names.{has_utf8_names}
 use Rattle.performed.specs.Followed.{are_followed, is_followed}
 use Rattle.performed.specs.Told.{are_told}
 use Rattle.performed.specs.Progress.{Moves}
@@ -52,7 +52,7 @@ data Phase (s : Script) (earlier : List Line) (a : ℕ) (added : List Line) : Ty
   begun : (i : ℕ) → added ≡ line.Begin a i ∷ [] → Starts s (behind s earlier a []) a i → Phase s earlier a added
   told : IsTold s (behind s earlier a added) → Phase s earlier a added
 
-module _ (s : Script) (serving : serves s ≡ true) (earlier : List Line) (a : ℕ) where
+module _ (s : Script) (serving : has_utf8_names s ≡ true) (earlier : List Line) (a : ℕ) where
   abbrev at : List Line → Kept
   at added = behind s earlier a added
 
@@ -74,7 +74,7 @@ module _ (s : Script) (serving : serves s ≡ true) (earlier : List Line) (a : �
   }
 
 -- behind the mark
-mark_publishes : (s : Script) → serves s ≡ true → (earlier : List Line) (a number f e n : ℕ) (text : List ℕ) → is_followed s (behind s earlier a []) (line.Published number f e n text) ≡ true → Phase s earlier a (line.Published number f e n text ∷ [])
+mark_publishes : (s : Script) → has_utf8_names s ≡ true → (earlier : List Line) (a number f e n : ℕ) (text : List ℕ) → is_followed s (behind s earlier a []) (line.Published number f e n text) ≡ true → Phase s earlier a (line.Published number f e n text ∷ [])
 mark_publishes s serving earlier zero number f e n text h =
     let l : Line = line.Published number f e n text in
     let k : Kept = behind s earlier zero [] in
@@ -86,7 +86,7 @@ mark_publishes s serving earlier (suc b) number f e n text h =
     let q : HasPublisher s k (suc b) = marked_publisher s (kept_of s earlier) b f p.family in
     told (publication_told s serving earlier (suc b) k (suc b) number f e n text (record { ended = refl; refused = refl }) q refl (ap is_some p.family))
 
-module _ (s : Script) (serving : serves s ≡ true) (earlier : List Line) (a : ℕ) where
+module _ (s : Script) (serving : has_utf8_names s ≡ true) (earlier : List Line) (a : ℕ) where
   -- a line behind those that moved nothing, given what comes of a begin and of a publication
   module _ (added : List Line) (calm : IsCalm (behind s earlier a added)) where
     abbrev now : Kept

@@ -8,12 +8,8 @@ use Rattle.report.specs.declared.line.Mode.{Mode}
 use Rattle.report.specs.declared.line.Line.{Line}
 use Rattle.report.specs.declared.line.Line.TheVariants as line
 use Rattle.report.specs.declared.lines.Report.{Report}
-use Rattle.adn.specs.declared.edit.RowUpdate.{RowUpdate}
-use Rattle.families.specs.Plans.{plan_updates}
-use Rattle.editor.specs.declared.editing.Attempt.{Attempt}
 use Rattle.watchers.specs.declared.mailbox.Mailbox.{Mailbox}
 use Rattle.rules.specs.declared.holdings.Handle.{Handle}
-use Rattle.rules.specs.declared.kept.Begun.{Begun}
 use Rattle.rules.specs.declared.kept.Job.{Job}
 use Rattle.rules.specs.declared.kept.Kept.{Kept}
 use Rattle.rules.specs.History.{ends_epoch}
@@ -23,7 +19,7 @@ use Rattle.rules.specs.Due.{due}
 use Rattle.rules.specs.Kept.{actor_count}
 use Rattle.rules.specs.Legal.{are_legal_lines, legal}
 use Rattle.rules.specs.Performed.{ends_turn, are_due}
-use Rattle.performed.specs.Served.{serves}
+use Rattle.performed.specs.Names.{has_utf8_names}
 use Rattle.performed.specs.Followed.{are_followed}
 use Rattle.performed.specs.Told.{are_told}
 use Rattle.performed.specs.Placed.{are_placed, is_turn_allowed}
@@ -34,11 +30,11 @@ use Rattle.performed.specs.Progress.{operations_left, Moves}
 
 -- lines that are due, that show what the slot gave, and whose turns are those of the mode, break no rule
 abbrev pub LinesAreLegal : Type 0
-LinesAreLegal = (s : Script) (m : Mode) (lines : List Line) → keeps_rules s ≡ true → serves s ≡ true → are_followed s lines ≡ true → are_told s lines ≡ true → are_placed s m lines ≡ true → are_legal_lines s m lines ≡ true
+LinesAreLegal = (s : Script) (m : Mode) (lines : List Line) → keeps_rules s ≡ true → has_utf8_names s ≡ true → are_followed s lines ≡ true → are_told s lines ≡ true → are_placed s m lines ≡ true → are_legal_lines s m lines ≡ true
 
 -- and neither does their end, where the run is finished and nothing is due in its last turn
 abbrev pub RunIsLegal : Type 0
-RunIsLegal = (r : Report) → keeps_rules r.script ≡ true → serves r.script ≡ true → are_followed r.script r.lines ≡ true → are_told r.script r.lines ≡ true → are_placed r.script r.mode r.lines ≡ true → is_turn_allowed r.mode (kept_of r.script r.lines).turn ≡ true → ends_turn (due r.script (kept_of r.script r.lines)) ≡ true → is_finished r.script (kept_of r.script r.lines) ≡ true → legal r ≡ true
+RunIsLegal = (r : Report) → keeps_rules r.script ≡ true → has_utf8_names r.script ≡ true → are_followed r.script r.lines ≡ true → are_told r.script r.lines ≡ true → are_placed r.script r.mode r.lines ≡ true → is_turn_allowed r.mode (kept_of r.script r.lines).turn ≡ true → ends_turn (due r.script (kept_of r.script r.lines)) ≡ true → is_finished r.script (kept_of r.script r.lines) ≡ true → legal r ≡ true
 
 -- each of them is what is due, with its numbers and its text
 abbrev pub LinesArePerformed : Type 0
@@ -55,11 +51,11 @@ TurnsEnd = (s : Script) (lines : List Line) (l : Line) → are_followed s (l ∷
 -- a turn that neither waits nor finds nothing left has something to do, where the lines show what the slot gave: an attempt of an edit has
 -- an update to send only as long as a card answers it
 abbrev pub MarksMove : Type 0
-MarksMove = (s : Script) (lines : List Line) (a : ℕ) → keeps_rules s ≡ true → serves s ≡ true → are_followed s (line.Turn a ∷ lines) ≡ true → are_told s lines ≡ true → is_idle s (kept_of s lines) a ≡ false → ends_turn (due s (kept_of s (line.Turn a ∷ lines))) ≡ false
+MarksMove = (s : Script) (lines : List Line) (a : ℕ) → keeps_rules s ≡ true → has_utf8_names s ≡ true → are_followed s (line.Turn a ∷ lines) ≡ true → are_told s lines ≡ true → is_idle s (kept_of s lines) a ≡ false → ends_turn (due s (kept_of s (line.Turn a ∷ lines))) ≡ false
 
 -- so has one that begins an operation, also behind its first line
 abbrev pub BeginsMove : Type 0
-BeginsMove = (s : Script) (lines : List Line) (a i : ℕ) → serves s ≡ true → are_followed s (line.Begin a i ∷ lines) ≡ true → ends_turn (due s (kept_of s (line.Begin a i ∷ lines))) ≡ false
+BeginsMove = (s : Script) (lines : List Line) (a i : ℕ) → has_utf8_names s ≡ true → are_followed s (line.Begin a i ∷ lines) ≡ true → ends_turn (due s (kept_of s (line.Begin a i ∷ lines))) ≡ false
 
 -- an actor whose turn would move
 pub record IsAwake (s : Script) (k : Kept) : Type 0 where
@@ -69,7 +65,7 @@ pub record IsAwake (s : Script) (k : Kept) : Type 0 where
 
 -- while the run is not finished, there is one
 abbrev pub SomebodyMoves : Type 0
-SomebodyMoves = (s : Script) (lines : List Line) → serves s ≡ true → are_followed s lines ≡ true → is_finished s (kept_of s lines) ≡ false → IsAwake s (kept_of s lines)
+SomebodyMoves = (s : Script) (lines : List Line) → has_utf8_names s ≡ true → are_followed s lines ≡ true → is_finished s (kept_of s lines) ≡ false → IsAwake s (kept_of s lines)
 
 -- a mark leaves open what is open
 pub record LeavesOpen (s : Script) (before after : Kept) : Type 0 where
@@ -87,7 +83,7 @@ abbrev pub has_no_mark : List Line → Bool
 has_no_mark lines = list_all (λ l. not (is_mark l)) lines
 
 abbrev pub TurnsMove : Type 0
-TurnsMove = (s : Script) (earlier added : List Line) (a : ℕ) → keeps_rules s ≡ true → serves s ≡ true → are_followed s (added ++ line.Turn a ∷ earlier) ≡ true → are_told s earlier ≡ true → has_no_mark added ≡ true → is_idle s (kept_of s earlier) a ≡ false → ends_turn (due s (kept_of s (added ++ line.Turn a ∷ earlier))) ≡ true → Moves s (kept_of s earlier) (kept_of s (added ++ line.Turn a ∷ earlier))
+TurnsMove = (s : Script) (earlier added : List Line) (a : ℕ) → keeps_rules s ≡ true → has_utf8_names s ≡ true → are_followed s (added ++ line.Turn a ∷ earlier) ≡ true → are_told s earlier ≡ true → has_no_mark added ≡ true → is_idle s (kept_of s earlier) a ≡ false → ends_turn (due s (kept_of s (added ++ line.Turn a ∷ earlier))) ≡ true → Moves s (kept_of s earlier) (kept_of s (added ++ line.Turn a ∷ earlier))
 
 -- nobody's turn would move once it is
 abbrev pub NobodyMoves : Type 0
@@ -135,42 +131,27 @@ pub record AreCounted (n : ℕ) (k : Kept) : Type 0 where
 abbrev pub KeepsCounts : Type 0
 KeepsCounts = (s : Script) (lines : List Line) → AreCounted (length lines) (kept_of s lines)
 
--- the bytes of an update fit into a command
-abbrev pub is_short : RowUpdate → Bool
-is_short u = nat_le (length u.bytes) 255
-
--- those of all its updates do, and no more of them were sent than there were events
-abbrev pub IsShortPlan : ℕ → Option Attempt → Type 0
-IsShortPlan events None = Unit {0}
-IsShortPlan events (Some a) = (list_all is_short (plan_updates a.plan) ≡ true) × (a.sent ≤ events)
-
-abbrev pub HasShortPlan : ℕ → Option Begun → Type 0
-HasShortPlan events None = Unit {0}
-HasShortPlan events (Some b) = IsShortPlan events b.editing.attempt
-
 -- a mailbox dropped at most so many notices
 abbrev pub DropsAtMost : ℕ → Option Mailbox → Type 0
 DropsAtMost n None = Unit {0}
 DropsAtMost n (Some m) = m.dropped ≤ n
 
--- an actor of a script that is served plans updates that fit into commands, dropped no more notices than there were publications, and has
--- answered at most its operations
-pub record IsPlainJob (events publications : ℕ) (job : Job) : Type 0 where
+-- an actor dropped no more notices than there were publications, and has answered at most 1000 operations
+pub record IsPlainJob (publications : ℕ) (job : Job) : Type 0 where
   pub answered : job.answered ≤ 1000
-  pub updates : HasShortPlan events job.begun
   pub mailbox : DropsAtMost publications job.mailbox
 
-abbrev pub ArePlainJobs : ℕ → ℕ → List Job → Type 0
-ArePlainJobs events publications [] = Unit {0}
-ArePlainJobs events publications (job ∷ jobs) = IsPlainJob events publications job × ArePlainJobs events publications jobs
+abbrev pub ArePlainJobs : ℕ → List Job → Type 0
+ArePlainJobs publications [] = Unit {0}
+ArePlainJobs publications (job ∷ jobs) = IsPlainJob publications job × ArePlainJobs publications jobs
 
 -- the number of a channel that it holds is that of a logical channel beside the basic one, ETSI TS 102 221 clause 8.7
 abbrev pub is_channel : Handle → Bool
 is_channel h = nat_le 1 h.number && nat_le h.number 19
 
 pub record IsPlain (k : Kept) : Type 0 where
-  pub jobs : ArePlainJobs k.history.events k.publications k.jobs
+  pub jobs : ArePlainJobs k.publications k.jobs
   pub handles : list_all is_channel k.handles ≡ true
 
 abbrev pub StaysPlain : Type 0
-StaysPlain = (s : Script) (lines : List Line) → keeps_rules s ≡ true → serves s ≡ true → are_followed s lines ≡ true → IsPlain (kept_of s lines)
+StaysPlain = (s : Script) (lines : List Line) → keeps_rules s ≡ true → are_followed s lines ≡ true → IsPlain (kept_of s lines)

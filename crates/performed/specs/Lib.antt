@@ -1,4 +1,4 @@
-pub mod Served
+pub mod Names
 pub mod Followed
 pub mod Told
 pub mod Placed

@@ -58,5 +58,5 @@ round_gone laws first r a h u rounds due going all =
     record {
       under_way = h.under_way;
       round = λ further. round_more s (kept_in s first).marks (kept_in s r).marks rounds (let marks = h.marks in omega arith);
-      nearer = gone_round s (kept_in s first) (kept_in s r) a (omega arith) (laws s first.hub.lines due.served due.followed (is_unfinished s (kept_in s first) going)) h.so_far;
+      nearer = gone_round s (kept_in s first) (kept_in s r) a (omega arith) (laws s first.hub.lines due.names due.followed (is_unfinished s (kept_in s first) going)) h.so_far;
     }

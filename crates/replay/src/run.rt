@@ -17,6 +17,8 @@ use report::{Mode, Report};
 use script::Script;
 use sim_card::SimSlot;
 use std::alloc::Global;
+use watched_tracker::mask_watches;
+use watchers::MaskFilter;
 
 /// How a replay ended.
 #[derive(Drop)]
@@ -30,7 +32,7 @@ pub enum Replayed {
 /// A run of a script over a simulated card.
 #[derive(Drop)]
 struct Run {
-    hub: Hub<SimSlot>,
+    hub: Hub<SimSlot, MaskFilter>,
     /// The run may have so many events.
     budget: u64,
 }
@@ -65,7 +67,8 @@ impl Run {
     {
         let slot = slot_of(alloc, &script)?;
         let budget = budget_of(&script);
-        let hub = Hub::new(alloc, slot, script)?;
+        let watches = mask_watches(alloc, &script)?;
+        let hub = Hub::new(alloc, slot, script, watches)?;
         Ok(Run { hub, budget })
     }
 

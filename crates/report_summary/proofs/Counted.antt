@@ -14,7 +14,7 @@ use Rattle.report_summary.specs.Summary.{counted, count_if, is_answer, is_refusa
 
 -- ---- the lines so far
 
-seen_more : (lines : List Line) (at : ℕ) (l : Line) → slice_get (reverse lines) at ≡ Some l → seen (at + 1) lines ≡ l ∷ seen at lines
+pub seen_more : (lines : List Line) (at : ℕ) (l : Line) → slice_get (reverse lines) at ≡ Some l → seen (at + 1) lines ≡ l ∷ seen at lines
 seen_more lines at l e =
     let within : at < length (reverse lines) = slice_get_within (reverse lines) at l e in
     let same : get_or (reverse lines) at (line.Turn 0) ≡ l = get_or_from_slice_get (reverse lines) at l (line.Turn 0) e in
@@ -29,7 +29,7 @@ line_there lines at h none =
     let there : slice_get (reverse lines) at ≡ Some (get_or (reverse lines) at (line.Turn 0)) = slice_get-get_or (reverse lines) at (line.Turn 0) within in
     absurd (cc)
 
-seen_all : (lines : List Line) → seen (length lines) lines ≡ lines
+pub seen_all : (lines : List Line) → seen (length lines) lines ≡ lines
 seen_all lines =
     ap (λ n. reverse (take n (reverse lines))) (sym (length-reverse lines))
     ∙ ap reverse (take-length (reverse lines))

@@ -23,4 +23,5 @@ mod tracker;
 mod turn;
 
 pub use family::family_at;
+pub use lists::{Change, change_each};
 pub use tracker::Tracker;

@@ -10,6 +10,6 @@ pub memory_is_due : (command : Option Subcommand) (source : SourceValue) → IsD
 memory_is_due None source = record { due = tt; unread = refl }
 memory_is_due (Some Replay) source = tt
 memory_is_due (Some Run) source = record { due = tt; unread = refl }
-memory_is_due (Some Check) source = record { due = tt; unread = refl }
+memory_is_due (Some Check) source = tt
 memory_is_due (Some (Generate seed size)) source = record { due = tt; unread = refl }
 memory_is_due (Some (Bulk seed size)) source = record { due = tt; unread = refl }

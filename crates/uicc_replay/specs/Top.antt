@@ -15,9 +15,10 @@ use Rattle.report.specs.declared.lines.Report.{Report}
 use Rattle.report.specs.Texts.{report_text}
 use Rattle.report_summary.specs.declared.summary.Summary.{Summary}
 use Rattle.report_summary.specs.Summary.{summary_of}
+use Rattle.uicc_replay.specs.Checking.{report_limit, status_of_verdict, HasChecked, IsDueOfCheck}
 use Rattle.replay.specs.Replay.{IsReplay, IsSpent}
 use Rattle.uicc_replay.specs.declared.top.Ending.{Ending}
-use Rattle.uicc_replay.specs.declared.top.Ending.TheVariants.{Usage, TooLong, Refused, ReadFault, Spent, Memory, Replayed, Generated, Counted}
+use Rattle.uicc_replay.specs.declared.top.Ending.TheVariants.{Usage, TooLong, Refused, ReadFault, Spent, Memory, Replayed, Generated, Checked, Counted}
 use Rattle.uicc_replay.specs.declared.top.Outcome.{Outcome}
 use Rattle.subcommands.specs.declared.words.Subcommand.{Subcommand}
 use Rattle.subcommands.specs.declared.words.Subcommand.TheVariants.{Replay, Run, Check, Generate, Bulk}
@@ -28,7 +29,7 @@ use Rattle.subcommands.specs.declared.words.Subcommand.TheVariants.{Replay, Run,
 abbrev pub is_served : Subcommand → Bool
 is_served Replay = true
 is_served Run = false
-is_served Check = false
+is_served Check = true
 is_served (Generate seed size) = true
 is_served (Bulk seed size) = true
 
@@ -42,7 +43,7 @@ abbrev pub reads : Option Subcommand → Bool
 reads None = false
 reads (Some Replay) = true
 reads (Some Run) = false
-reads (Some Check) = false
+reads (Some Check) = true
 reads (Some (Generate seed size)) = false
 reads (Some (Bulk seed size)) = false
 
@@ -90,7 +91,7 @@ abbrev pub is_status : Option Subcommand → ℕ → Bool
 is_status None status = is_one_of status (2 ∷ 5 ∷ 9 ∷ [])
 is_status (Some Replay) status = is_one_of status (0 ∷ 3 ∷ 4 ∷ 5 ∷ 6 ∷ 8 ∷ 9 ∷ [])
 is_status (Some Run) status = is_one_of status (2 ∷ 5 ∷ 9 ∷ [])
-is_status (Some Check) status = is_one_of status (2 ∷ 5 ∷ 9 ∷ [])
+is_status (Some Check) status = is_one_of status (0 ∷ 3 ∷ 4 ∷ 5 ∷ 7 ∷ 8 ∷ 9 ∷ [])
 is_status (Some (Generate seed size)) status = is_one_of status (0 ∷ 5 ∷ 9 ∷ [])
 is_status (Some (Bulk seed size)) status = is_one_of status (0 ∷ 5 ∷ 6 ∷ 9 ∷ [])
 
@@ -103,6 +104,7 @@ piece_of (Spent line) = line
 piece_of Memory = memory_line
 piece_of (Replayed report text) = text
 piece_of (Generated text) = text
+piece_of (Checked verdict line) = line
 piece_of (Counted report line) = line
 
 abbrev pub status_of : Ending → ℕ
@@ -114,6 +116,7 @@ status_of (Spent line) = 6
 status_of Memory = 9
 status_of (Replayed report text) = 0
 status_of (Generated text) = 0
+status_of (Checked verdict line) = status_of_verdict verdict
 status_of (Counted report line) = 0
 
 abbrev pub report_of : Ending → Option Report
@@ -125,6 +128,7 @@ report_of (Spent line) = None
 report_of Memory = None
 report_of (Replayed report text) = Some report
 report_of (Generated text) = None
+report_of (Checked verdict line) = None
 report_of (Counted report line) = Some report
 
 -- ---- reading
@@ -132,6 +136,15 @@ report_of (Counted report line) = Some report
 -- the most bytes that a script may have
 abbrev pub script_limit : ℕ
 script_limit = 8388608
+
+-- the most that the command reads
+abbrev pub limit_of : Option Subcommand → ℕ
+limit_of None = 0
+limit_of (Some Replay) = script_limit
+limit_of (Some Run) = 0
+limit_of (Some Check) = report_limit
+limit_of (Some (Generate seed size)) = 0
+limit_of (Some (Bulk seed size)) = 0
 
 -- ---- causes
 
@@ -164,6 +177,7 @@ IsDueOfBudget events (Spent line) = line ≡ budget_line events
 IsDueOfBudget events Memory = Unit {0}
 IsDueOfBudget events (Replayed report text) = ⊥
 IsDueOfBudget events (Generated text) = ⊥
+IsDueOfBudget events (Checked verdict line) = ⊥
 IsDueOfBudget events (Counted report line) = ⊥
 
 -- the ending of a report
@@ -176,6 +190,7 @@ IsDueOfReport r (Spent line) = ⊥
 IsDueOfReport r Memory = Unit {0}
 IsDueOfReport r (Replayed report text) = (report ≡ r) × (text ≡ report_text report)
 IsDueOfReport r (Generated text) = ⊥
+IsDueOfReport r (Checked verdict line) = ⊥
 IsDueOfReport r (Counted report line) = ⊥
 
 -- the ending of a script
@@ -188,6 +203,7 @@ IsDueOfScript s (Spent line) = TellsSpent s line
 IsDueOfScript s Memory = Unit {0}
 IsDueOfScript s (Replayed report text) = (report.script ≡ s) × IsReplay report × (text ≡ report_text report)
 IsDueOfScript s (Generated text) = ⊥
+IsDueOfScript s (Checked verdict line) = ⊥
 IsDueOfScript s (Counted report line) = ⊥
 
 -- the bytes are a script, and the line tells by how many events its budget is spent
@@ -206,6 +222,7 @@ IsDueOfBytes bytes (Spent line) = TellsSpentOf bytes line
 IsDueOfBytes bytes Memory = Unit {0}
 IsDueOfBytes bytes (Replayed report text) = (script_of_bytes bytes ≡ Ok report.script) × IsReplay report × (text ≡ report_text report)
 IsDueOfBytes bytes (Generated text) = ⊥
+IsDueOfBytes bytes (Checked verdict line) = ⊥
 IsDueOfBytes bytes (Counted report line) = ⊥
 
 -- bytes were read of which this is the ending
@@ -224,6 +241,7 @@ IsDueOfSource before after (Spent line) = IsDueOfRead before after (Spent line)
 IsDueOfSource before after Memory = Unit {0}
 IsDueOfSource before after (Replayed report text) = IsDueOfRead before after (Replayed report text)
 IsDueOfSource before after (Generated text) = ⊥
+IsDueOfSource before after (Checked verdict line) = ⊥
 IsDueOfSource before after (Counted report line) = ⊥
 
 -- the ending of a generated script
@@ -236,6 +254,7 @@ IsDueOfSizes seed size (Spent line) = ⊥
 IsDueOfSizes seed size Memory = Unit {0}
 IsDueOfSizes seed size (Replayed report text) = ⊥
 IsDueOfSizes seed size (Generated text) = text ≡ generated_text seed size
+IsDueOfSizes seed size (Checked verdict line) = ⊥
 IsDueOfSizes seed size (Counted report line) = ⊥
 
 -- the ending of a report whose lines are counted
@@ -248,6 +267,7 @@ IsDueOfCounts r (Spent line) = ⊥
 IsDueOfCounts r Memory = Unit {0}
 IsDueOfCounts r (Replayed report text) = ⊥
 IsDueOfCounts r (Generated text) = ⊥
+IsDueOfCounts r (Checked verdict line) = ⊥
 IsDueOfCounts r (Counted report line) = (report ≡ r) × (line ≡ summary_line (summary_of report.lines))
 
 -- the ending of the replay of a generated script
@@ -260,6 +280,7 @@ IsDueOfGenerated seed size (Spent line) = TellsSpent (generated seed size) line
 IsDueOfGenerated seed size Memory = Unit {0}
 IsDueOfGenerated seed size (Replayed report text) = ⊥
 IsDueOfGenerated seed size (Generated text) = ⊥
+IsDueOfGenerated seed size (Checked verdict line) = ⊥
 IsDueOfGenerated seed size (Counted report line) = (report.script ≡ generated seed size) × IsReplay report × (line ≡ summary_line (summary_of report.lines))
 
 -- a generated script is replayed, and nothing is read
@@ -282,6 +303,7 @@ IsDueOfNone (Spent line) = ⊥
 IsDueOfNone Memory = Unit {0}
 IsDueOfNone (Replayed report text) = ⊥
 IsDueOfNone (Generated text) = ⊥
+IsDueOfNone (Checked verdict line) = ⊥
 IsDueOfNone (Counted report line) = ⊥
 
 -- such words read nothing
@@ -294,7 +316,7 @@ abbrev pub IsDue : Option Subcommand → SourceValue → SourceValue → Ending 
 IsDue None before after e = IsUsage before after e
 IsDue (Some Replay) before after e = IsDueOfSource before after e
 IsDue (Some Run) before after e = IsUsage before after e
-IsDue (Some Check) before after e = IsUsage before after e
+IsDue (Some Check) before after e = IsDueOfCheck before after e
 IsDue (Some (Generate seed size)) before after e = IsGenerated seed size before after e
 IsDue (Some (Bulk seed size)) before after e = IsCounted seed size before after e
 
@@ -319,22 +341,36 @@ pub record HasCounted (seed size : ℕ) (before after : StreamsValue) (r : Repor
   pub replay : IsReplay r
   pub text : Wrote before after (summary_line (summary_of r.lines))
 
+-- a legal report was checked, and no report is handed out
+pub record HasReportChecked (before after : StreamsValue) (r : Option Report) : Type 0 where
+  pub report : r ≡ None
+  pub checked : HasChecked 0 before after
+
 -- what was done where all went well
 abbrev pub IsDone : Option Subcommand → StreamsValue → StreamsValue → Option Report → Type 0
 IsDone None before after r = ⊥
 IsDone (Some Replay) before after r = IsSomeAnd r (IsReplayed before after)
 IsDone (Some Run) before after r = ⊥
-IsDone (Some Check) before after r = ⊥
+IsDone (Some Check) before after r = HasReportChecked before after r
 IsDone (Some (Generate seed size)) before after r = WroteScript seed size before after r
 IsDone (Some (Bulk seed size)) before after r = IsSomeAnd r (HasCounted seed size before after)
 
 -- the line was written that tells why the bytes that were read are not replayed
-pub record IsRefused (before after : StreamsValue) : Type 0 where
+pub record IsUnplayed (before after : StreamsValue) : Type 0 where
   pub bytes : List ℕ
   pub read : IsRead script_limit before.source after.source bytes
   pub line : List ℕ
   pub told : refusal_line bytes ≡ Some line
   pub text : Wrote before after line
+
+-- the bytes that were read are refused: they are not replayed, or they are no report
+abbrev pub IsRefused : Option Subcommand → StreamsValue → StreamsValue → Type 0
+IsRefused None before after = ⊥
+IsRefused (Some Replay) before after = IsUnplayed before after
+IsRefused (Some Run) before after = ⊥
+IsRefused (Some Check) before after = HasChecked 3 before after
+IsRefused (Some (Generate seed size)) before after = ⊥
+IsRefused (Some (Bulk seed size)) before after = ⊥
 
 -- the line was written that tells by how many events the budget is spent of the script that was read
 pub record IsBudgetOfReadSpent (before after : StreamsValue) : Type 0 where

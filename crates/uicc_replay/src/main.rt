@@ -1,7 +1,8 @@
-//! Replays a script of a card and its users through the framework, and writes the report.
+//! Replays a script of a card and its users through the framework, and writes the report; and checks reports.
 #![tactic(auto)]
 
 mod bulk;
+mod check;
 mod text;
 mod top;
 

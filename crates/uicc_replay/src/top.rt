@@ -4,9 +4,11 @@ ghost use Rattle.apdu.specs.Stream.{Rose};
 ghost use Rattle.streams.specs.Streams.{HasMore, Wrote};
 ghost use Rattle.script_reader.specs.Rules.{keeps_rules};
 ghost use Rattle.subcommands.specs.Subcommands.{HasSize, subcommand_of};
-ghost use Rattle.uicc_replay.specs.Top.{served, reads, line_of, is_status, script_limit, IsDue, IsDueOfSource, IsDueOfBytes, IsDueOfScript, IsDueOfReport, IsDueOfBudget, IsDueOfLine, IsDueOfSizes, IsDone, IsRefused, IsBudgetSpent, WritesPart, Writes, Ends};
+ghost use Rattle.uicc_replay.specs.Checking.{HasChecked};
+ghost use Rattle.uicc_replay.specs.Top.{served, reads, line_of, is_status, script_limit, limit_of, IsDue, IsDueOfSource, IsDueOfBytes, IsDueOfScript, IsDueOfReport, IsDueOfBudget, IsDueOfLine, IsDueOfSizes, IsDone, IsRefused, IsBudgetSpent, WritesPart, Writes, Ends};
 
 use crate::bulk::ending_of_bulk;
+use crate::check::{Verdict, ending_of_check};
 use crate::text::{budget_text, generated_text, refused_text};
 use apdu::{Bytes, Memory, Sink, Source, Text};
 use replay::{Replayed, replay};
@@ -28,7 +30,7 @@ pub struct Outcome {
 pub enum Ending {
     /// The words are no command that is served.
     Usage,
-    /// The source gave more bytes than a script may have.
+    /// The source gave more bytes than a script, or a report, may have.
     TooLong,
     /// The bytes are not replayed; this line tells why.
     Refused { line: Text },
@@ -42,6 +44,8 @@ pub enum Ending {
     Replayed { report: Report, text: Bytes },
     /// The script was generated; this is its text.
     Generated { text: Bytes },
+    /// This is said of the report; this line tells it.
+    Checked { verdict: Verdict, line: Text },
     /// The generated script was replayed; this is the report, and the line that tells how much that did.
     Counted { report: Report, line: Text },
 }
@@ -145,9 +149,10 @@ fn ending_of_command<S: Source, K: Sink>(
 {
     match command {
         Some(Subcommand::Replay) => ending_of_source(alloc, streams),
+        Some(Subcommand::Check) => ending_of_check(alloc, streams),
         Some(Subcommand::Generate { seed, size }) => ending_of_sizes(alloc, seed, size),
         Some(Subcommand::Bulk { seed, size }) => ending_of_bulk(alloc, seed, size),
-        Some(Subcommand::Run | Subcommand::Check) | None => Ending::Usage,
+        Some(Subcommand::Run) | None => Ending::Usage,
     }
 }
 
@@ -208,6 +213,9 @@ fn write_ending<S: Source, K: Sink>(streams: &mut Streams<S, K>, ending: Ending)
             write_piece(streams, 0, Some(report), text.as_slice())
         }
         Ending::Generated { text } => write_piece(streams, 0, None, text.as_slice()),
+        Ending::Checked { verdict, line } => {
+            write_piece(streams, verdict.status(), None, line.as_str().as_bytes())
+        }
         Ending::Counted { report, line } => {
             write_piece(streams, 0, Some(report), line.as_str().as_bytes())
         }
@@ -221,31 +229,37 @@ fn write_ending<S: Source, K: Sink>(streams: &mut Streams<S, K>, ending: Ending)
 /// was spent, and its text was written whole. Where the words are `gen`, a seed and a size, it reads
 /// nothing, and at status 0 the generated script was written whole. Where they are `bulk`, a seed and a
 /// size, it reads nothing, replays the generated script, and at status 0 hands out its report, which is
-/// legal, and wrote how many events, publications, answers and refusals that has. Each other status says
-/// what stood in the way, and its line was written: bytes that are no script (3), a run that spent its
-/// budget before it was finished (6), more bytes than a script may have (8), words that are no command that
-/// is served (2), a source (4) or a sink (5) that failed, or want of memory (9).
+/// legal, and wrote how many events, publications, answers and refusals that has. Where the words are the
+/// one word `check`, it reads a report to its end, and at status 0 the report is legal, and the numbers of
+/// its lines and events were written. Each other status says what stood in the way, and its line was
+/// written: bytes that are no script, or, for a check, no report (3), a run that spent its budget before it
+/// was finished (6), a report that breaks a rule, at the first such line, and the lowest such rule there
+/// (7), more bytes than a script or a report may have (8), words that are no command that is served (2), a
+/// source (4) or a sink (5) that failed, or want of memory (9).
 pub fn top<S: Source, K: Sink>(
     alloc: Global,
     words: &[String],
     streams: &mut Streams<S, K>,
 ) -> Outcome
     // What each status says. 0: the report is the legal replay of all the source's bytes, and its
-    // text was written, or a generated script was, or the counts of its legal replay. 6: a legal run
-    // of the script has the budget's events, and is not finished.
+    // text was written, or a generated script was, or the bytes are a legal report. 6: a legal run of
+    // the bytes has the budget's events, and is not finished. 7: the bytes are a report that is not
+    // legal.
     ensures done { result.status ≡ 0
         → IsDone (subcommand_of words.now) streams.old streams.new result.report }
     ensures usage { result.status ≡ 2 → served (subcommand_of words.now) ≡ None }
-    ensures refused { result.status ≡ 3 → IsRefused streams.old streams.new }
+    ensures refused { result.status ≡ 3
+        → IsRefused (subcommand_of words.now) streams.old streams.new }
     ensures read { result.status ≡ 4 → Rose streams.old.source.faults streams.new.source.faults }
     ensures write { result.status ≡ 5 → Rose streams.old.sink.faults streams.new.sink.faults }
     ensures spent { result.status ≡ 6
         → IsBudgetSpent (subcommand_of words.now) streams.old streams.new }
+    ensures illegal { result.status ≡ 7 → HasChecked 7 streams.old streams.new }
     ensures too_long { result.status ≡ 8
-        → HasMore script_limit streams.old.source streams.new.source }
+        → HasMore (limit_of (subcommand_of words.now)) streams.old.source streams.new.source }
 
     // The statuses of each command; words that are none that is served end in 2, 5 or 9. Only a
-    // replay reads.
+    // replay and a check read.
     ensures known { IsTrue (is_status (subcommand_of words.now) result.status) }
     ensures unread { reads (subcommand_of words.now) ≡ false
         → streams.new.source ≡ streams.old.source }

@@ -1,5 +1,5 @@
 -- Bits that a byte has not.
-use Rattle.std.proofs.Common.{◌≡◌, ◌<◌, ◌≤◌, ◌/◌, ◌^◌, ℕ, arith}
+use Rattle.std.proofs.Common.{◌≡◌, ◌<◌, ◌≤◌, ◌/◌, ◌^◌, ℕ}
 use Rattle.std.proofs.Math.Nat.{div-eq_of_lt, le_trans}
 use Rattle.std.proofs.Math.Pow.{pow_mono}
 

@@ -1,11 +1,9 @@
 // What a watcher is told.
-ghost use Rattle.std.specs.Prelude.{[], ◌≡◌, ◌+◌, ◌<◌, ◌^◌, ◌/◌, ◌%◌, ◌==◌};
+ghost use Rattle.std.specs.Prelude.{[], ◌≡◌, ◌+◌, ◌<◌, ◌^◌};
 ghost use Rattle.watchers.specs.Watching as spec;
 
+use crate::filter::wants;
 use arrayvec::ArrayVec;
-
-// The bit of a mask that asks for the end of an epoch.
-const EPOCH_END: u8 = 7;
 
 /// The notices of a watching actor.
 #[derive(Drop)]
@@ -16,23 +14,6 @@ pub struct Mailbox {
     pub dropped: u64,
     /// The numbers of the publications, the oldest first.
     pub numbers: ArrayVec<u64, 64>,
-}
-
-/// Whether a mask asks for publications of this family, or without one for the end of an epoch.
-fn wants(mask: u8, family: Option<u8>) -> bool
-    ensures { result ≡ spec.wants mask family }
-{
-    match family {
-        None => is_set(mask, EPOCH_END),
-        Some(family) => is_set(mask, family),
-    }
-}
-
-#[tactic(auto, using(crate::proofs::Bits::high_bit))]
-fn is_set(mask: u8, bit: u8) -> bool
-    ensures { result ≡ ((mask / 2 ^ bit) % 2 == 1) }
-{
-    bit < 8 && (mask >> bit) % 2 == 1
 }
 
 impl Mailbox {

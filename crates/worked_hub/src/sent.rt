@@ -10,6 +10,8 @@ use report::{Line, write_line};
 use script::read_script;
 use std::alloc::Global;
 use std::test::Fail;
+use watched_tracker::mask_watches;
+use watchers::MaskFilter;
 
 const AID: [u8; 7] = [0xA0, 0, 0, 0, 0x87, 0x10, 0x02];
 
@@ -55,7 +57,7 @@ fn a_verification_sends_one_command(rt: HostRuntime) -> Result<(), Fail> {
 }
 
 /// The texts of the answers in the first lines of a hub.
-fn answers(alloc: Global, hub: &Hub<Nodding>) -> Result<String, Memory> {
+fn answers(alloc: Global, hub: &Hub<Nodding, MaskFilter>) -> Result<String, Memory> {
     let mut texts = String::new(alloc);
     for at in 0..40 {
         if let Some(line) = hub.line(at)? {
@@ -71,7 +73,8 @@ fn answers(alloc: Global, hub: &Hub<Nodding>) -> Result<String, Memory> {
 #[test]
 fn a_hub_sends_no_further_command(rt: HostRuntime) -> Result<(), Fail> {
     let script = read_script(rt.alloc(), SCRIPT.as_bytes()).map_err(|_| "a script")?;
-    let mut hub = Hub::new(rt.alloc(), Nodding::new(), script)?;
+    let watches = mask_watches(rt.alloc(), &script)?;
+    let mut hub = Hub::new(rt.alloc(), Nodding::new(), script, watches)?;
     for turn in 0..20 {
         let actor = turn % 2;
         if usize::from(actor) <= hub.script().actors.len() {

@@ -9,12 +9,4 @@ mod kept;
 #[cfg(test)]
 mod loads;
 #[cfg(test)]
-mod planned;
-#[cfg(test)]
-mod plans;
-#[cfg(test)]
-mod reports;
-#[cfg(test)]
-mod shown;
-#[cfg(test)]
 mod turns;

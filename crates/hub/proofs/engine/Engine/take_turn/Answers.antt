@@ -8,7 +8,7 @@ use Rattle.hub.proofs.Turning.{under_way}
 use Rattle.hub.proofs.engine.Engine.take_turn.Goals as goal
 
 pub mark-requires-clause-pending : goal.mark-requires-clause-pending
-mark-requires-clause-pending g c = awake_pending c.args.self.now.script c.args.self.now.tracker c.args.actor c.requires.actor c.requires.awake
+mark-requires-clause-pending g c = awake_pending c.args.self.now.script c.args.self.now.tracker.kept c.args.actor c.requires.actor c.requires.awake
 
 pub lines-init : goal.lines-init
 lines-init g c = record {
@@ -23,13 +23,13 @@ pub next-requires-clause-fits : goal.next-requires-clause-fits
 next-requires-clause-fits g c = (under_way c.actors_stay_plain.ensures _ _ _ _ c.lines.invariant.turning).fits
 
 pub next-requires-clause-left : goal.next-requires-clause-left
-next-requires-clause-left g c = left_in_turn c.args.actor c.lines.self.tracker _ (under_way c.actors_stay_plain.ensures _ _ _ _ c.lines.invariant.turning).turn c.lines.invariant.left.rows
+next-requires-clause-left g c = left_in_turn c.args.actor c.lines.self.tracker.kept _ (under_way c.actors_stay_plain.ensures _ _ _ _ c.lines.invariant.turning).turn c.lines.invariant.left.rows
 
 pub returns-in_err-line-clause-err : goal.returns-in_err-line-clause-err
 returns-in_err-line-clause-err g c =
     always_err _ _ (broken_now _ _ _ _ _
     (c.lines.invariant.from ∙ ap (λ k. k.history.events) c.requires.settled.tied.kept) c.lines.invariant.stays c.lines.invariant.turning
-    (moved_on c.args.actor _ c.lines.self.tracker _ c.next.result _ (under_way c.actors_stay_plain.ensures _ _ _ _ c.lines.invariant.turning).turn c.lines.invariant.left c.in_err-line.was c.next.ensures.ready c.next.ensures.undecided))
+    (moved_on c.args.actor _ c.lines.self.tracker.kept _ c.next.result _ (under_way c.actors_stay_plain.ensures _ _ _ _ c.lines.invariant.turning).turn c.lines.invariant.left c.in_err-line.was c.next.ensures.ready c.next.ensures.undecided))
 
 pub do_line-requires : goal.do_line-requires
 do_line-requires g c =
@@ -59,7 +59,7 @@ lines-preserved g c = record {
   from = c.lines.invariant.from;
   may = λ bare. filled_now _ _ c.lines.invariant.turning.tied c.in_ok-next.ensures.line bare;
   left =
-      subst (λ (o : Option (List ℕ)). HasLeft c.args.actor c.kept.result.now.history.events o c.do_line.new.self.tracker) (sym c.unless_moved.ensures)
+      subst (λ (o : Option (List ℕ)). HasLeft c.args.actor c.kept.result.now.history.events o c.do_line.new.self.tracker.kept) (sym c.unless_moved.ensures)
       (next_left _ _ c.lines.invariant.turning.tied c.in_ok-next.ensures.line c.args.actor c.kept.result.now.history.events c.lines.left.ready c.take.result (under_way c.actors_stay_plain.ensures _ _ _ _ c.lines.invariant.turning).turn
       (λ none. c.take.ensures.value ∙ ap (λ x. x.ready) (c.in_ok-line.ensures.kept (ap is_given c.in_ok-line.ensures.value ∙ none)))
       (since _ _ _ _ _ c.lines.invariant.from c.requires.settled.tied c.lines.invariant.stays c.lines.invariant.turning).started c.lines.invariant.left);

@@ -9,10 +9,10 @@ abbrev pub invariant-lines : goal.invariant-lines
 invariant-lines g l = record {
   turning : IsTurning l.actor l.fn.self.lines.lines l.text (parts g.S.Slot.world g.S.Slot.plan l.self);
   stays : StaysWith (parts g.S.Slot.world g.S.Slot.plan l.fn.self) (parts g.S.Slot.world g.S.Slot.plan l.self);
-  from : l.events ≡ l.fn.self.tracker.history.events;
-  may : l.self.tracker.turn.bare ≡ true → MayBegin l.self.script l.self.tracker l.actor l.begin;
-  left : HasLeft l.actor l.events l.left.ready l.self.tracker;
+  from : l.events ≡ l.fn.self.tracker.kept.history.events;
+  may : l.self.tracker.kept.turn.bare ≡ true → MayBegin l.self.script l.self.tracker.kept l.actor l.begin;
+  left : HasLeft l.actor l.events l.left.ready l.self.tracker.kept;
 }
 
 abbrev pub decreases-lines : goal.decreases-lines
-decreases-lines g l = steps_left l.self.tracker
+decreases-lines g l = steps_left l.self.tracker.kept

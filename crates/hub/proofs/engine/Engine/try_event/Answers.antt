@@ -20,7 +20,7 @@ pub returns-in-Ok-clause-line : goal.returns-in-Ok-clause-line
 returns-in-Ok-clause-line g c =
     one_more _ _ (line.World c.args.actor c.args.event)
     (has_line _ _ _ _ _ (line.World c.args.actor c.args.event) c.requires.turn.tied
-    (event_follows c.args.self.now.script c.args.self.now.tracker c.args.actor c.requires.turn.turn c.args.event c.requires.due)
+    (event_follows c.args.self.now.script c.args.self.now.tracker.kept c.args.actor c.requires.turn.turn c.args.event c.requires.due)
     c.push_within.ensures.lines c.push_within.ensures.spare c.happen.ensures refl refl
-    (event_played c.args.self.now.script c.args.self.now.tracker c.args.actor c.args.event _ _ _ _ c.in-Ok.ensures.tells c.in-Ok.ensures.plan c.in-Ok.ensures.ok c.in-Ok.ensures.refused))
+    (event_played c.args.self.now.script c.args.self.now.tracker.kept c.args.actor c.args.event _ _ _ _ c.in-Ok.ensures.tells c.in-Ok.ensures.plan c.in-Ok.ensures.ok c.in-Ok.ensures.refused))
     refl

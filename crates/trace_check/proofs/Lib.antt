@@ -1,0 +1,13 @@
+pub mod Following
+pub mod Judged
+pub mod Knowing
+pub mod NoCard
+pub mod Numbers
+pub mod Planning
+pub mod Saying
+pub mod Scripts
+pub mod Sent
+pub mod States
+pub mod Still
+pub mod Stepping
+pub mod UpTo

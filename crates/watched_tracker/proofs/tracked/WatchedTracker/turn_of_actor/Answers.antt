@@ -1,0 +1,5 @@
+use Rattle.watched_tracker.proofs.Mailboxes.{held_on, quiet_turn}
+use Rattle.watched_tracker.proofs.tracked.WatchedTracker.turn_of_actor.Goals as goal
+
+pub invariant_of-self : goal.invariant_of-self
+invariant_of-self g c = held_on _ c.self.inside.tracker c.turn_of_actor.new.self _ c.self.invariant (quiet_turn c.args.script.now c.self.inside.tracker c.args.actor) c.turn_of_actor.ensures
